@@ -1,0 +1,4 @@
+pub mod Driver
+pub mod DriverParts
+pub mod Names
+pub mod Seats

@@ -1,0 +1,101 @@
+ghost use Rattle.std.specs.Prelude.{◌≡◌, ◌⊎◌, ◌↔◌, ◌≤◌, length, IfOk, IsTrue, Err};
+ghost use Rattle.cache_types.specs.Driver.{blob_of, IsDriverText, IsDriver};
+
+use crate::bytes::Bytes;
+use crate::limits::MAX_DRIVER_TEXT;
+use crate::memory::NoMemory;
+use std::alloc::Global;
+use std::marker::Model;
+
+/// Why there is no such driver.
+#[derive(Clone, Copy, Debug, PartialEq, Eq)]
+pub enum DriverError {
+    /// The id or the GPU name has more than 255 bytes, or a zero byte.
+    BadText,
+    /// Memory ran out.
+    NoMemory,
+}
+
+/// A driver, which contracts see as its id, its GPU's name and its flags. It keeps the bytes that stand
+/// at the front of each of its items.
+#[derive(Debug, Drop)]
+pub struct Driver {
+    bytes: Bytes,
+    id_end: u64,
+    gpu_end: u64,
+    flags: u64,
+}
+
+impl Model for Driver {
+    ghost use Rattle.cache_types.specs.Driver.{DriverKeys};
+
+    ghost Value = { DriverKeys };
+
+    ghost use Rattle.cache_types.specs.DriverParts.{keys_of, IsFront};
+
+    ghost view = { keys_of };
+
+    ghost invariant = { IsFront };
+}
+
+/// Whether a text can stand in a driver: at most 255 bytes and no zero byte.
+fn is_driver_text(text: &[u8]) -> bool
+    ensures { IsTrue result ↔ IsDriverText text.now }
+{
+    if text.len() > MAX_DRIVER_TEXT {
+        return false;
+    }
+    let mut rest = text;
+    while let [byte, tail @ ..] = rest {
+        if *byte == 0 {
+            return false;
+        }
+        rest = tail;
+    }
+    true
+}
+
+impl Driver {
+    /// The bytes at the front of each item of this driver, 12 to 522 of them. Takes no memory.
+    pub fn blob(&self) -> &[u8]
+        ensures bytes { result.now ≡ blob_of self.now }
+        ensures short { length result.now ≤ 522 }
+    {
+        &self.bytes.as_slice()[..self.gpu_end as usize + 10]
+    }
+
+    /// What is known of every driver: its texts can stand in one, and its blob is short.
+    pub fn known(&self)
+        ensures fits { IsDriver self.now }
+        ensures short { length (blob_of self.now) ≤ 522 }
+    {
+        let _flags = self.flags;
+        let _blob = self.blob();
+    }
+
+    /// The same driver in memory of its own.
+    pub fn copy(&self) -> Result<Driver, NoMemory>
+        ensures { IfOk result (λ d. d ≡ self.now) }
+    {
+        Ok(Driver {
+            bytes: self.bytes.copy()?,
+            id_end: self.id_end,
+            gpu_end: self.gpu_end,
+            flags: self.flags,
+        })
+    }
+}
+
+/// The driver keys blob: what stands at the front of each item of the driver, and what keys are made of.
+pub fn driver_blob(alloc: Global, driver: &Driver) -> Result<Bytes, NoMemory>
+    ensures { IfOk result (λ b. b ≡ blob_of driver.now) }
+{
+    Bytes::of(alloc, driver.blob())
+}
+
+/// The length of the driver keys blob in bytes, 12 to 522. Takes no memory.
+pub fn blob_len(driver: &Driver) -> u64
+    ensures { result ≡ length (blob_of driver.now) }
+{
+    driver.blob().len() as u64
+}
