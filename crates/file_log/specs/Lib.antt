@@ -1,0 +1,11 @@
+pub mod Disk
+pub mod Writing
+pub mod Effect
+pub mod Log
+pub mod State
+pub mod Along
+pub mod Fits
+pub mod Legal
+pub mod Seat
+pub mod Exchange
+pub mod Told
