@@ -104,3 +104,7 @@ pub record Operated {M : Type 0} (asks : M → Step) (asked : M → M) (fed : M 
   pub counts : Counts before now exchanges
   pub answer_is : IsEndOf given answer
   pub told : Grows old new (OwnsToEnd me (Begin me request ∷ (items_of_all exchanges ++ End me answer ∷ [])))
+
+-- a machine that has opened nothing, and none of whose calls has failed
+pub record IsFresh (slots : ℕ → Bool) (hurt : Bool) : Type 0 where
+  pub empty : (at : ℕ) → slots at ≡ false

@@ -7,12 +7,14 @@
 
 mod files;
 mod machine;
+mod operation;
 mod sink;
 mod source;
 mod took;
 
 pub use files::Files;
 pub use machine::{Machine, Step};
+pub use operation::{drive, operate};
 pub use sink::Sink;
 pub use source::Source;
 pub use took::Took;
