@@ -12,7 +12,24 @@ fn next(state: u32, byte: u8) -> u32
     ensures { result ≡ byte_step state byte }
 {
     let low = (state ^ u32::from(byte)) & 0xff;
-    entry(low as u8) ^ (state >> 8)
+    entry(0, low as u8) ^ (state >> 8)
+}
+
+/// Eight bytes in one step: the state goes into the first four, and each of the eight then comes to
+/// what its own table says.
+fn next_eight(state: u32, bytes: [u8; 8]) -> u32
+    ensures { result ≡ state_after state bytes }
+{
+    let word = u64::from(state) ^ u64::from_le_bytes(bytes);
+    let [b0, b1, b2, b3, b4, b5, b6, b7] = word.to_le_bytes();
+    entry(0, b7)
+        ^ entry(1, b6)
+        ^ entry(2, b5)
+        ^ entry(3, b4)
+        ^ entry(4, b3)
+        ^ entry(5, b2)
+        ^ entry(6, b1)
+        ^ entry(7, b0)
 }
 
 /// The CRC-32 of the bytes. It takes no memory and refuses nothing.
@@ -34,8 +51,12 @@ pub fn start() -> u32
 pub fn update(state: u32, bytes: &[u8]) -> u32
     ensures { result ≡ state_after state bytes.now }
 {
+    let (eights, rest) = bytes.as_chunks::<8>();
     let mut after = state;
-    for byte in bytes {
+    for eight in eights {
+        after = next_eight(after, *eight);
+    }
+    for byte in rest {
         after = next(after, *byte);
     }
     after
