@@ -7,6 +7,12 @@ use crate::memory::NoMemory;
 use std::alloc::Global;
 use std::marker::Model;
 
+/// The cache's version, the first byte of every driver blob.
+const VERSION: u8 = 1;
+
+/// The size of a pointer in bytes, as driver blobs tell it.
+const POINTER_SIZE: u8 = 8;
+
 /// Why there is no such driver.
 #[derive(Clone, Copy, Debug, PartialEq, Eq)]
 pub enum DriverError {
@@ -55,7 +61,52 @@ fn is_driver_text(text: &[u8]) -> bool
     true
 }
 
+/// The bytes at the front of an item of this driver.
+#[tactic(auto, unfolding(crate::specs::Driver::blob_of))]
+fn spelled(alloc: Global, id: &[u8], gpu: &[u8], flags: u64) -> Result<Vec<u8>, NoMemory>
+    requires id { length id.now ≤ 255 }
+    requires gpu { length gpu.now ≤ 255 }
+    ensures { IfOk result (λ v. v.items ≡ blob_of (record { id = id.now; gpu = gpu.now; flags = flags })) }
+{
+    let mut bytes = Vec::with_capacity(alloc, id.len() + gpu.len() + 12)?;
+    bytes.push(VERSION)?;
+    bytes.extend_from_slice(id)?;
+    bytes.push(0)?;
+    bytes.extend_from_slice(gpu)?;
+    bytes.push(0)?;
+    bytes.push(POINTER_SIZE)?;
+    bytes.extend_from_slice(&flags.to_le_bytes())?;
+    Ok(bytes)
+}
+
 impl Driver {
+    /// A driver of this id, GPU name and flags.
+    ///
+    /// # Errors
+    ///
+    /// `BadText` exactly where the id or the GPU name has more than 255 bytes or a zero byte;
+    /// `NoMemory`.
+    pub fn new(alloc: Global, id: &str, gpu: &str, flags: u64) -> Result<Driver, DriverError>
+        ensures made { IfOk result (λ d. d ≡ record { id = id.now; gpu = gpu.now; flags = flags }) }
+        ensures bad { (result ≡ Err DriverError.BadText) ↔ ((¬ IsDriverText id.now) ⊎ (¬ IsDriverText gpu.now)) }
+    {
+        let (id, gpu) = (id.as_bytes(), gpu.as_bytes());
+        if !is_driver_text(id) || !is_driver_text(gpu) {
+            return Err(DriverError::BadText);
+        }
+        let Ok(bytes) = spelled(alloc, id, gpu, flags) else {
+            return Err(DriverError::NoMemory);
+        };
+        let id_end = id.len() as u64 + 1;
+        let gpu_end = id_end + 1 + gpu.len() as u64;
+        Ok(Driver {
+            bytes: Bytes::from_vec(bytes),
+            id_end,
+            gpu_end,
+            flags,
+        })
+    }
+
     /// The bytes at the front of each item of this driver, 12 to 522 of them. Takes no memory.
     pub fn blob(&self) -> &[u8]
         ensures bytes { result.now ≡ blob_of self.now }
