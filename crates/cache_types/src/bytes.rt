@@ -1,4 +1,5 @@
 ghost use Rattle.std.specs.Prelude.{◌≡◌, ◌<◌, ◌++◌, ◌∷◌, [], length, take, IfOk, OnOk, OnErr, slice_set, nat_eq};
+ghost use Rattle.std.specs.List.{AllByRecursion};
 ghost use Rattle.std.specs.Cmp.Lexicographic.{pointwise, nat_list_eq_equiv};
 ghost use Rattle.std.specs.Cmp.{partial_equiv_from_equiv};
 
@@ -97,6 +98,20 @@ impl Bytes {
     {
         self.items.truncate(n as usize);
     }
+
+    /// What is known of all bytes: each is below 256.
+    pub fn known(&self)
+        ensures { AllByRecursion (λ b. b < 256) self.now }
+    {
+        are_bytes(self.as_slice());
+    }
+}
+
+/// What is known of all bytes of a slice.
+fn are_bytes(items: &[u8])
+    ensures { AllByRecursion (λ b. b < 256) items.now }
+{
+    let _len = items.len();
 }
 
 impl PartialEq for Bytes {

@@ -1,3 +1,4 @@
 pub mod All
 pub mod Logs
 pub mod Stops
+pub mod Writing

@@ -1,5 +1,10 @@
+ghost use Rattle.std.specs.Prelude.{◌≡◌, IfOk};
+ghost use Rattle.file_log.specs.Fits.{CallFits};
+
+use crate::known::name_known;
 use crate::note::Note;
-use cache_types::{Bytes, Name};
+use cache_types::{Bytes, Name, NoMemory};
+use std::alloc::Global;
 
 /// What a seat asks of the files. A slot is one of eight, 0 to 7, and stands for an open file; places
 /// and lengths are in bytes.
@@ -33,4 +38,65 @@ pub enum Call {
     Close { slot: u8 },
     /// Tells a note to the log.
     Tell(Note),
+}
+
+impl Call {
+    /// What is known of every call: the names that it speaks of are names.
+    pub fn known(&self)
+        ensures { CallFits self.now }
+    {
+        match self {
+            Call::OpenOld { slot: _, name } => name_known(name),
+            Call::OpenNew { slot: _, name } => name_known(name),
+            Call::Rename { from, to } => {
+                name_known(from);
+                name_known(to);
+            }
+            Call::Remove { name } => name_known(name),
+            _ => {}
+        }
+    }
+
+    /// The same in memory of its own.
+    pub fn copy(&self, alloc: Global) -> Result<Call, NoMemory>
+        ensures { IfOk result (λ c. c ≡ self.now) }
+    {
+        match self {
+            Call::OpenOld { slot, name } => Ok(Call::OpenOld {
+                slot: *slot,
+                name: name.copy()?,
+            }),
+            Call::OpenNew { slot, name } => Ok(Call::OpenNew {
+                slot: *slot,
+                name: name.copy()?,
+            }),
+            Call::TryLock { slot } => Ok(Call::TryLock { slot: *slot }),
+            Call::Length { slot } => Ok(Call::Length { slot: *slot }),
+            Call::ReadAt { slot, at, n } => Ok(Call::ReadAt {
+                slot: *slot,
+                at: *at,
+                n: *n,
+            }),
+            Call::WriteAt { slot, at, bytes } => Ok(Call::WriteAt {
+                slot: *slot,
+                at: *at,
+                bytes: bytes.copy()?,
+            }),
+            Call::Cut { slot, n } => Ok(Call::Cut { slot: *slot, n: *n }),
+            Call::Rename { from, to } => {
+                let from = from.copy()?;
+                let to = to.copy()?;
+                Ok(Call::Rename { from, to })
+            }
+            Call::Remove { name } => Ok(Call::Remove { name: name.copy()? }),
+            Call::ListFolder { root, byte } => Ok(Call::ListFolder {
+                root: *root,
+                byte: *byte,
+            }),
+            Call::Now => Ok(Call::Now),
+            Call::Pause => Ok(Call::Pause),
+            Call::Close { slot } => Ok(Call::Close { slot: *slot }),
+            Call::Tell(note) => Ok(Call::Tell(note.copy(alloc)?)),
+        }
+    }
 }

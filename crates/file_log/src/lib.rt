@@ -4,12 +4,14 @@
 
 mod call;
 mod item;
+mod known;
 mod note;
 mod reply;
 mod ticket;
 
 pub use call::Call;
 pub use item::LogItem;
+pub use known::request_known;
 pub use note::Note;
 pub use reply::Reply;
 pub use ticket::Ticket;
