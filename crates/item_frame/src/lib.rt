@@ -1,0 +1,10 @@
+//! Items as bytes: a driver's keys blob, what is known of the blob's making, a checksum, a size and the
+//! blob itself. They are read from left to right, and the first field that is wrong is named.
+#![tactic(auto)]
+
+mod fields;
+mod item;
+mod refusal;
+
+pub use item::{Item, check_item, read_blob, read_item};
+pub use refusal::ItemRefusal;
