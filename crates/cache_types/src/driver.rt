@@ -45,7 +45,7 @@ impl Model for Driver {
 }
 
 /// Whether a text can stand in a driver: at most 255 bytes and no zero byte.
-fn is_driver_text(text: &[u8]) -> bool
+pub fn is_driver_text(text: &[u8]) -> bool
     ensures { IsTrue result ↔ IsDriverText text.now }
 {
     if text.len() > MAX_DRIVER_TEXT {

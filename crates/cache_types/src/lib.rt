@@ -22,7 +22,7 @@ mod text_list;
 
 pub use answer::Answer;
 pub use bytes::Bytes;
-pub use driver::{Driver, DriverError, blob_len, driver_blob};
+pub use driver::{Driver, DriverError, blob_len, driver_blob, is_driver_text};
 pub use key::{BadKey, Key};
 pub use key_list::KeyList;
 pub use limits::{KEY_LEN, MAX_BLOB, MAX_DRIVER_TEXT, MAX_ITEM, MAX_KEYS};

@@ -1,0 +1,4 @@
+//! The top calls.
+#![tactic(auto)]
+
+mod words;
