@@ -8,30 +8,6 @@ ghost use Rattle.crc_small.specs.Sum.{Sum, byte_step, first_state, finished, sta
 
 use crate::tables::entry;
 
-fn next(state: u32, byte: u8) -> u32
-    ensures { result ≡ byte_step state byte }
-{
-    let low = (state ^ u32::from(byte)) & 0xff;
-    entry(0, low as u8) ^ (state >> 8)
-}
-
-/// Eight bytes in one step: the state goes into the first four, and each of the eight then comes to
-/// what its own table says.
-fn next_eight(state: u32, bytes: [u8; 8]) -> u32
-    ensures { result ≡ state_after state bytes }
-{
-    let word = u64::from(state) ^ u64::from_le_bytes(bytes);
-    let [b0, b1, b2, b3, b4, b5, b6, b7] = word.to_le_bytes();
-    entry(0, b7)
-        ^ entry(1, b6)
-        ^ entry(2, b5)
-        ^ entry(3, b4)
-        ^ entry(4, b3)
-        ^ entry(5, b2)
-        ^ entry(6, b1)
-        ^ entry(7, b0)
-}
-
 /// The CRC-32 of the bytes. It takes no memory and refuses nothing.
 pub fn crc32(bytes: &[u8]) -> u32
     ensures { result ≡ Sum bytes.now }
@@ -39,15 +15,15 @@ pub fn crc32(bytes: &[u8]) -> u32
     finish(update(start(), bytes))
 }
 
-/// The state before the first byte.
+/// The state before the first byte. With `update` and `finish` a sum is taken over pieces: the
+/// pieces one after another give the sum of the bytes that they make together.
 pub fn start() -> u32
     ensures { result ≡ first_state }
 {
     u32::MAX
 }
 
-/// The state after the bytes, from any state. Pieces given one after another leave the state that all
-/// of them joined leave.
+/// The state after the bytes, from any state. It takes no memory and refuses nothing.
 pub fn update(state: u32, bytes: &[u8]) -> u32
     ensures { result ≡ state_after state bytes.now }
 {
@@ -67,6 +43,31 @@ pub fn finish(state: u32) -> u32
     ensures { result ≡ finished state }
 {
     !state
+}
+
+/// One byte: eight steps of the state's lowest byte with it, and the rest of the state moved down.
+fn next(state: u32, byte: u8) -> u32
+    ensures { result ≡ byte_step state byte }
+{
+    let low = (state ^ u32::from(byte)) & 0xff;
+    entry(0, low as u8) ^ (state >> 8)
+}
+
+/// Eight bytes in one step. The sum is linear, so each byte, the first four with the state's bytes in
+/// them, comes alone to what the table of its place says.
+fn next_eight(state: u32, bytes: [u8; 8]) -> u32
+    ensures { result ≡ state_after state bytes }
+{
+    let word = u64::from(state) ^ u64::from_le_bytes(bytes);
+    let [b0, b1, b2, b3, b4, b5, b6, b7] = word.to_le_bytes();
+    entry(0, b7)
+        ^ entry(1, b6)
+        ^ entry(2, b5)
+        ^ entry(3, b4)
+        ^ entry(4, b3)
+        ^ entry(5, b2)
+        ^ entry(6, b1)
+        ^ entry(7, b0)
 }
 
 #[cfg(test)]

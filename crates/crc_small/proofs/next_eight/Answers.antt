@@ -1,6 +1,6 @@
 use Rattle.std.proofs.Common.{arith, rules, ap, sym, ◌∙◌, ◌≡◌, ◌<◌, ◌^◌, ℕ, length, get_or}
 use Rattle.std.specs.Prelude.{bit_xor}
-use Rattle.std.specs.Int.{w64, from_le_bytes, to_le_bytes}
+use Rattle.std.specs.Int.{w64, from_le_bytes}
 use Rattle.std.proofs.lemmas.Nat.{xor_lt}
 use Rattle.crc_small.proofs.Steps.{eight_at_once}
 use Rattle.crc_small.proofs.next_eight.Goals as goal

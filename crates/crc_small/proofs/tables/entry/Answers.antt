@@ -1,5 +1,5 @@
 use Rattle.std.proofs.Common.{arith}
-use Rattle.crc_small.proofs.Table.{entry_is}
+use Rattle.crc_small.proofs.Entries.{entry_is}
 use Rattle.crc_small.proofs.tables.entry.Goals as goal
 
 pub returns : goal.returns
