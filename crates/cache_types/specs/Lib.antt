@@ -1,4 +1,5 @@
 pub mod Driver
 pub mod DriverParts
+pub mod Front
 pub mod Names
 pub mod Seats
