@@ -1,6 +1,8 @@
 -- At most one driver's blob stands in front of the same bytes.
-use Rattle.std.proofs.Common.{◌≡◌, ◌≢◌, ℕ, List, [], ◌∷◌, ◌++◌, get_or, take, drop, refl, sym, ap, ◌∙◌}
+use Rattle.std.proofs.Common.{◌≡◌, ◌↔◌, Bool, IsTrue, ◌≢◌, ℕ, List, [], ◌∷◌, ◌++◌, get_or, take, drop, refl, sym, ap, ◌∙◌}
+use Rattle.std.specs.Prelude.{nat_eq}
 use Rattle.std.specs.List.{AllByRecursion}
+use Rattle.std.specs.Cmp.Lexicographic.{pointwise, bytes_decides}
 use Rattle.std.specs.Int.{w64, to_le_bytes, from_le_bytes}
 use Rattle.std.proofs.lemmas.Nat.{from_le_bytes-to_le_bytes_8}
 use Rattle.cache_types.specs.Driver.{DriverKeys, blob_of, IsDriver, Fronts}
@@ -36,3 +38,14 @@ one_driver d e r s d_is e_is same = ap blob_of (same_driver d e r s d_is e_is sa
 -- the same, of what Fronts says
 pub one_front : (bytes : List ℕ) (d e : DriverKeys) → Fronts bytes d → Fronts bytes e → d ≡ e
 one_front bytes d e f g = same_driver d e f.rest g.rest f.driver g.driver (sym f.bytes_are ∙ g.bytes_are)
+
+pub same_blob : (d e : DriverKeys) → IsDriver d → IsDriver e → blob_of d ≡ blob_of e → d ≡ e
+same_blob d e d_is e_is same = same_driver d e [] [] d_is e_is (ap (λ (x : List ℕ). x ++ []) same)
+
+-- comparing their blobs compares the drivers
+pub same_test : (d e : DriverKeys) (x y : List ℕ) (r : Bool) → IsDriver d → IsDriver e → x ≡ blob_of d → y ≡ blob_of e → r ≡ pointwise nat_eq x y → IsTrue r ↔ (d ≡ e)
+same_test d e x y r d_is e_is x_is y_is r_is =
+    let decides = bytes_decides x y in
+    ( λ yes. same_blob d e d_is e_is (sym x_is ∙ decides.0 (sym r_is ∙ yes) ∙ y_is)
+    , λ same. r_is ∙ decides.1 (x_is ∙ ap blob_of same ∙ sym y_is)
+    )

@@ -135,6 +135,13 @@ impl Driver {
         let _blob = self.blob();
     }
 
+    /// Whether two drivers are one. Takes no memory.
+    pub fn is(&self, other: &Driver) -> bool
+        ensures { IsTrue result ↔ (self.now ≡ other.now) }
+    {
+        self.flags == other.flags && self.blob() == other.blob()
+    }
+
     /// The same driver in memory of its own.
     pub fn copy(&self) -> Result<Driver, NoMemory>
         ensures { IfOk result (λ d. d ≡ self.now) }
