@@ -1,3 +1,4 @@
+pub mod Answers
 pub mod Driver
 pub mod DriverParts
 pub mod Front

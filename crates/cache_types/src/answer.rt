@@ -1,4 +1,5 @@
-ghost use Rattle.std.specs.Prelude.{◌≡◌, IfOk};
+ghost use Rattle.std.specs.Prelude.{◌≡◌, IfOk, IsOk};
+ghost use Rattle.cache_types.specs.Answers.{IsSmall};
 
 use crate::bytes::Bytes;
 use crate::key_list::KeyList;
@@ -42,9 +43,11 @@ pub enum Answer {
 }
 
 impl Answer {
-    /// The same in memory of its own. An answer that carries no list takes none.
+    /// The same in memory of its own. An answer that carries no list takes none, so its copy is never
+    /// refused.
     pub fn copy(&self, alloc: Global) -> Result<Answer, NoMemory>
-        ensures { IfOk result (λ a. a ≡ self.now) }
+        ensures same { IfOk result (λ a. a ≡ self.now) }
+        ensures small { IsSmall self.now → IsOk result }
     {
         match self {
             Answer::Hit(blob) => Ok(Answer::Hit(blob.copy()?)),
