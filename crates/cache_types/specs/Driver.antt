@@ -1,5 +1,5 @@
 -- Drivers, and the bytes at the front of each item.
-use Rattle.std.specs.Prelude.{◌≢◌, ℕ, ◌<◌, ◌≤◌, ◌^◌, List, ◌∷◌, ◌++◌, length}
+use Rattle.std.specs.Prelude.{◌≡◌, ◌≢◌, ℕ, ◌<◌, ◌≤◌, ◌^◌, List, ◌∷◌, ◌++◌, length}
 use Rattle.std.specs.List.{AllByRecursion}
 use Rattle.std.specs.Int.{w64, to_le_bytes}
 
@@ -22,3 +22,13 @@ pub record IsDriver (d : DriverKeys) : Type 0 where
   pub id : IsDriverText d.id
   pub gpu : IsDriverText d.gpu
   pub flags : d.flags < 2 ^ 64
+
+-- the bytes begin with a driver's blob
+pub record Fronts (bytes : List ℕ) (d : DriverKeys) : Type 0 where
+  pub driver : IsDriver d
+  pub rest : List ℕ
+  pub bytes_are : bytes ≡ blob_of d ++ rest
+
+-- the bytes begin with no driver's blob
+abbrev pub HasNoFront : List ℕ → Type 0
+HasNoFront bytes = (d : DriverKeys) → Fronts bytes d → ⊥

@@ -43,7 +43,8 @@ pub enum Answer {
 }
 
 impl Answer {
-    /// The same in memory of its own. An answer that carries no list takes none.
+    /// The same in memory of its own. An answer that carries no list takes none, so its copy is never
+    /// refused.
     pub fn copy(&self, alloc: Global) -> Result<Answer, NoMemory>
         ensures same { IfOk result (λ a. a ≡ self.now) }
         ensures small { IsSmall self.now → IsOk result }

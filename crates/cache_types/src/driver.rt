@@ -1,17 +1,12 @@
-ghost use Rattle.std.specs.Prelude.{◌≡◌, ◌⊎◌, ◌↔◌, ◌≤◌, length, IfOk, IsTrue, Err};
-ghost use Rattle.cache_types.specs.Driver.{blob_of, IsDriverText, IsDriver};
+ghost use Rattle.std.specs.Prelude.{◌≡◌, ◌⊎◌, ◌↔◌, ◌≤◌, length, IfOk, IfSome, IsNone, IsTrue, Err};
+ghost use Rattle.cache_types.specs.Driver.{blob_of, IsDriverText, IsDriver, Fronts, HasNoFront};
 
 use crate::bytes::Bytes;
-use crate::limits::MAX_DRIVER_TEXT;
+use crate::front::front_of;
+use crate::limits::{CACHE_VERSION, MAX_DRIVER_TEXT, POINTER_SIZE};
 use crate::memory::NoMemory;
 use std::alloc::Global;
 use std::marker::Model;
-
-/// The cache's version, the first byte of every driver blob.
-const VERSION: u8 = 1;
-
-/// The size of a pointer in bytes, as driver blobs tell it.
-const POINTER_SIZE: u8 = 8;
 
 /// Why there is no such driver.
 #[derive(Clone, Copy, Debug, PartialEq, Eq)]
@@ -69,7 +64,7 @@ fn spelled(alloc: Global, id: &[u8], gpu: &[u8], flags: u64) -> Result<Vec<u8>, 
     ensures { IfOk result (λ v. v.items ≡ blob_of (record { id = id.now; gpu = gpu.now; flags = flags })) }
 {
     let mut bytes = Vec::with_capacity(alloc, id.len() + gpu.len() + 12)?;
-    bytes.push(VERSION)?;
+    bytes.push(CACHE_VERSION)?;
     bytes.extend_from_slice(id)?;
     bytes.push(0)?;
     bytes.extend_from_slice(gpu)?;
@@ -107,6 +102,22 @@ impl Driver {
         })
     }
 
+    /// The driver whose blob stands in front of the bytes, and None exactly where no driver's does. There
+    /// is at most one. It keeps the memory of the bytes and takes none.
+    pub fn of_front(bytes: Bytes) -> Option<Driver>
+        ensures found { IfSome result (λ d. Fronts bytes d) }
+        ensures none { IsNone result ↔ HasNoFront bytes }
+    {
+        let front = front_of(bytes.as_slice())?;
+        let id_end = front.id_len + 1;
+        Some(Driver {
+            bytes,
+            id_end,
+            gpu_end: id_end + 1 + front.gpu_len,
+            flags: front.flags,
+        })
+    }
+
     /// The bytes at the front of each item of this driver, 12 to 522 of them. Takes no memory.
     pub fn blob(&self) -> &[u8]
         ensures bytes { result.now ≡ blob_of self.now }
@@ -122,6 +133,13 @@ impl Driver {
     {
         let _flags = self.flags;
         let _blob = self.blob();
+    }
+
+    /// Whether two drivers are one. Takes no memory.
+    pub fn is(&self, other: &Driver) -> bool
+        ensures { IsTrue result ↔ (self.now ≡ other.now) }
+    {
+        self.flags == other.flags && self.blob() == other.blob()
     }
 
     /// The same driver in memory of its own.

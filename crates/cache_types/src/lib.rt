@@ -6,6 +6,7 @@
 mod answer;
 mod bytes;
 mod driver;
+mod front;
 mod key;
 mod key_list;
 mod limits;
@@ -23,6 +24,7 @@ mod text_list;
 pub use answer::Answer;
 pub use bytes::Bytes;
 pub use driver::{Driver, DriverError, blob_len, driver_blob, is_driver_text};
+pub use front::front_len;
 pub use key::{BadKey, Key};
 pub use key_list::KeyList;
 pub use limits::{KEY_LEN, MAX_BLOB, MAX_DRIVER_TEXT, MAX_ITEM, MAX_KEYS};
