@@ -1,0 +1,6 @@
+use Rattle.std.proofs.Common.{refl}
+use Rattle.path_names.proofs.Texts.{IsAscii-encode_lower}
+use Rattle.path_names.proofs.digits.key_digits.Goals as goal
+
+pub returns-clause-text : goal.returns-clause-text
+returns-clause-text c = rw c.in-Ok.ensures.written (IsAscii-encode_lower c.args.key.now.bytes)

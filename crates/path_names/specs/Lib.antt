@@ -1,0 +1,2 @@
+pub mod RoNames
+pub mod Paths
