@@ -1,0 +1,62 @@
+ghost use Rattle.std.specs.Prelude.{◌≡◌, ◌++◌, IfOk, OnOk, string_bytes};
+ghost use Rattle.report_text.specs.Lines.{key_digits, key_lines, row_line, row_lines};
+
+use cache_types::{Key, NoMemory, Row};
+use std::alloc::Global;
+
+/// Adds a key's 40 digits.
+fn push_key(alloc: Global, text: &mut String, key: &Key) -> Result<(), NoMemory>
+    ensures { OnOk result (string_bytes text.new ≡ string_bytes text.old ++ key_digits key.now) }
+{
+    let digits = hex::encode(alloc, key.bytes)?;
+    text.push_str(digits.as_str())?;
+    Ok(())
+}
+
+/// Adds a line of `verify`, without its newline.
+fn push_row(alloc: Global, text: &mut String, row: &Row) -> Result<(), NoMemory>
+    ensures { OnOk result (string_bytes text.new ≡ string_bytes text.old ++ row_line row.now) }
+{
+    match row {
+        Row::Head(head) => text.push_str(head.as_str())?,
+        Row::Entry {
+            place,
+            key,
+            finding,
+        } => {
+            if let Some(place) = place {
+                write!(text, "{place} ")?;
+            }
+            match key {
+                Some(key) => push_key(alloc, text, key)?,
+                None => text.push_str("-")?,
+            }
+            write!(text, " {}", finding.as_str())?;
+        }
+    }
+    Ok(())
+}
+
+/// The keys, one a line.
+pub fn text_of_keys(alloc: Global, keys: &[Key]) -> Result<String, NoMemory>
+    ensures { IfOk result (λ text. string_bytes text ≡ key_lines keys.now) }
+{
+    let mut text = String::new(alloc);
+    for key in keys {
+        push_key(alloc, &mut text, key)?;
+        text.push_str("\n")?;
+    }
+    Ok(text)
+}
+
+/// What `verify` found, a line for each row.
+pub fn text_of_rows(alloc: Global, rows: &[Row]) -> Result<String, NoMemory>
+    ensures { IfOk result (λ text. string_bytes text ≡ row_lines rows.now) }
+{
+    let mut text = String::new(alloc);
+    for row in rows {
+        push_row(alloc, &mut text, row)?;
+        text.push_str("\n")?;
+    }
+    Ok(text)
+}
