@@ -90,8 +90,12 @@ abbrev pub is_fault : LogItem → Bool
 is_fault (items.Failed who memory) = if memory then false else true
 is_fault item = false
 
+-- a call failed or was refused memory
+abbrev pub is_failed : LogItem → Bool
+is_failed (items.Failed who memory) = true
+is_failed item = false
+
 -- no call failed or was refused memory
 abbrev pub NoneFailed : List LogItem → Type 0
 NoneFailed [] = Unit {0}
-NoneFailed (items.Failed who memory ∷ log) = ⊥
-NoneFailed (item ∷ log) = NoneFailed log
+NoneFailed (item ∷ log) = (is_failed item ≡ false) × NoneFailed log
