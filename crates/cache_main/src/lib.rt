@@ -1,4 +1,5 @@
 //! The top calls.
 #![tactic(auto)]
 
+mod printing;
 mod words;
