@@ -1,5 +1,5 @@
 -- Where the files of the cache lie.
-use Rattle.std.specs.Prelude.{◌≡◌, ℕ, ◌<◌, Bool, true, List, [], ◌∷◌, ◌++◌, length, get_or, take, drop, codes, Option, Some, None, IsSome, unwrap_or}
+use Rattle.std.specs.Prelude.{◌≡◌, ℕ, ◌<◌, true, List, [], ◌∷◌, ◌++◌, length, get_or, take, drop, codes, Option, Some, None, IsSome, unwrap_or, slice_index}
 use Rattle.hex.specs.Hex.{encode_lower}
 use Rattle.cache_types.specs.declared.key.Key.{Key}
 use Rattle.cache_types.specs.declared.name.Name.{Name}
@@ -70,3 +70,21 @@ path_in paths None place = unwrap_or paths.list []
 -- the path of a name
 abbrev pub path_spelled : Paths → Name → List ℕ
 path_spelled paths name = path_in paths (root_of name) (place_of name)
+
+-- ---- one path for each name
+
+-- a key that there can be: 20 bytes
+pub record IsKeyOfBytes (key : Key) : Type 0 where
+  pub length_is : length key.bytes ≡ 20
+  pub bytes : (i : ℕ) → slice_index key.bytes i < 256
+
+-- a name that there can be: its folder's number is a byte, its key has 20
+abbrev pub CanBe : Name → Type 0
+CanBe (names.FolderLock root byte) = byte < 256
+CanBe (names.Entry root key) = IsKeyOfBytes key
+CanBe (names.Temp root key) = IsKeyOfBytes key
+CanBe name = Unit {0}
+
+-- no other name of the same root has this path
+abbrev pub IsPathOfOne : Paths → Name → List ℕ → Type 0
+IsPathOfOne paths name path = (other : Name) → CanBe name → CanBe other → HasPath paths other → root_of name ≡ root_of other → path ≡ path_spelled paths other → name ≡ other

@@ -1,5 +1,5 @@
 ghost use Rattle.std.specs.Prelude.{◌≡◌, ◌↔◌, ◌<◌, ◌≤◌, [], length, get_or, IfOk, IsTrue};
-ghost use Rattle.path_names.specs.Paths.{HasRoot, HasPath, path_spelled};
+ghost use Rattle.path_names.specs.Paths.{HasRoot, HasPath, IsPathOfOne, path_spelled};
 
 use crate::place::{in_root, of_entry, of_lock};
 use crate::ro_name::is_ro_name;
@@ -70,8 +70,17 @@ pub fn has_path(paths: &Paths, name: &Name) -> bool
 
 /// The path of a name: its root, a slash, and its place there; of the list its own path. No other name of
 /// the same root has this path.
-#[tactic(auto, unfolding(crate::specs::Paths::place_of))]
 pub fn path_of(alloc: Global, paths: &Paths, name: &Name) -> Result<Text, NoMemory>
+    requires { HasPath paths.now name.now }
+    ensures path { IfOk result (λ t. t ≡ path_spelled paths.now name.now) }
+    ensures one { IfOk result (IsPathOfOne paths.now name.now) }
+{
+    spelled(alloc, paths, name)
+}
+
+/// The path of a name.
+#[tactic(auto, unfolding(crate::specs::Paths::place_of))]
+fn spelled(alloc: Global, paths: &Paths, name: &Name) -> Result<Text, NoMemory>
     requires { HasPath paths.now name.now }
     ensures { IfOk result (λ t. t ≡ path_spelled paths.now name.now) }
 {

@@ -1,5 +1,4 @@
-use Rattle.std.proofs.Common.{[], ◌∷◌, sym, subst}
-use Rattle.std.specs.Str.{IsAscii}
+use Rattle.std.proofs.Common.{[], ◌∷◌}
 use Rattle.path_names.proofs.Texts.{IsAscii-encode_lower}
 use Rattle.path_names.proofs.digits.byte_digits.Goals as goal
 

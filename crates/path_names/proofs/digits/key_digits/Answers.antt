@@ -1,4 +1,3 @@
-use Rattle.std.proofs.Common.{refl}
 use Rattle.path_names.proofs.Texts.{IsAscii-encode_lower}
 use Rattle.path_names.proofs.digits.key_digits.Goals as goal
 
