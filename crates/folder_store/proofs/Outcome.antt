@@ -37,11 +37,11 @@ pub record Outcome (answer : Answer) (made : List LogItem) (xs : List Exchange) 
 -- ---- the last phases
 
 -- an answer that stands fast, and no failure after it
-record Settled (given answer : Answer) (made : List LogItem) : Type 0 where
+pub record Settled (given answer : Answer) (made : List LogItem) : Type 0 where
   pub same : answer ≡ given
   pub fine : any_fault made ≡ false
 
-ended : (me : Who) (m last : FolderGet) (xs : List Exchange) (given answer : Answer) → m.phase ≡ Ended given → From me m xs answer last → Settled given answer (items_of_all xs)
+pub ended : (me : Who) (m last : FolderGet) (xs : List Exchange) (given answer : Answer) → m.phase ≡ Ended given → From me m xs answer last → Settled given answer (items_of_all xs)
 ended me m last [] given answer e run = record { same = sym (done_is given answer (asks_at m (Ended given) e ∙ run.0)); fine = refl }
 ended me m last (x ∷ xs) given answer e run = not_ask x.call given (asks_at m (Ended given) e ∙ run.0)
 
@@ -51,7 +51,7 @@ close_step me m last replies.Done made xs given answer e s =
     record { same = end.same; fine = ap any_fault s.items ∙ end.fine }
 close_step me m last reply made xs given answer e s = absurd s.fits
 
-closing : (me : Who) (m last : FolderGet) (xs : List Exchange) (given answer : Answer) → m.phase ≡ Closing given → From me m xs answer last → Settled given answer (items_of_all xs)
+pub closing : (me : Who) (m last : FolderGet) (xs : List Exchange) (given answer : Answer) → m.phase ≡ Closing given → From me m xs answer last → Settled given answer (items_of_all xs)
 closing me m last [] given answer e run = not_done (Close 1) answer (asks_at m (Closing given) e ∙ run.0)
 closing me m last (x ∷ xs) given answer e run = close_step me m last x.reply (items_of_all (x ∷ xs)) xs given answer e (stepped me m last (Close 1) x xs answer tt (asks_at m (Closing given) e) run)
 
