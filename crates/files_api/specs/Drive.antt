@@ -43,8 +43,9 @@ pub record Moves (slots : ℕ → Bool) (hurt : Bool) (left : ℕ) (call : Call)
   pub covers : (seen_after (seen_in slots hurt) call reply).hurt ≡ true → hurt' ≡ true
   pub less : left' < left
 
+-- a reply that the call has moves them so
 abbrev pub Goes : (ℕ → Bool) → Bool → ℕ → Step → Reply → (ℕ → Bool) → Bool → ℕ → Type 0
-Goes slots hurt left (Ask call) reply slots' hurt' left' = Moves slots hurt left call reply slots' hurt' left'
+Goes slots hurt left (Ask call) reply slots' hurt' left' = Answers true call reply → Moves slots hurt left call reply slots' hurt' left'
 Goes slots hurt left (Done answer) reply slots' hurt' left' = Unit {0}
 
 -- A machine of this seat may make these calls, with these replies and items, and then give this answer.

@@ -42,6 +42,6 @@ pub trait Machine {
 
     /// It asks for calls that its slots allow, and is done only where it has closed all of them.
     ghost allowed: { (m : Self) → Allows (slots m) (hurt m) (asks m) };
-    /// A reply changes its slots as it does those of the seat, and a call less is left.
+    /// A reply that the call has changes its slots as it does those of the seat, and leaves a call less.
     ghost goes_on: { (m n : Self) (reply : Reply) → fed (asked m) reply n → Goes (slots m) (hurt m) (left m) (asks m) reply (slots n) (hurt n) (left n) };
 }

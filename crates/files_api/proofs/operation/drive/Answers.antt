@@ -22,11 +22,11 @@ calls-preserved g c =
     let seen = f.seen c.calls.files in
     let is : m.asks now ≡ Ask call = sym c.in-Ask.ensures.step in
     let fed : m.fed (m.asked now) reply next = rw (← c.in-Ask.ensures.after) c.feed.ensures in
-    let goes = subst (λ (s : Step). Goes (m.slots now) (m.hurt now) (m.left now) s reply (m.slots next) (m.hurt next) (m.left next)) is (g.met.M.Machine.goes_on now next reply fed) in
-    let allows = subst (λ (s : Step). Allows (m.slots now) (m.hurt now) s) is (g.met.M.Machine.allowed now) in
-    let same : seen.filled ≡ m.slots now = fun_ext c.calls.invariant.slots in
     let within = c.calls.invariant.inside in
     let fits = subst (λ (b : Bool). Answers b call reply) within c.call-reply.ensures.fits in
+    let goes = subst (λ (s : Step). Goes (m.slots now) (m.hurt now) (m.left now) s reply (m.slots next) (m.hurt next) (m.left next)) is (g.met.M.Machine.goes_on now next reply fed) fits in
+    let allows = subst (λ (s : Step). Allows (m.slots now) (m.hurt now) s) is (g.met.M.Machine.allowed now) in
+    let same : seen.filled ≡ m.slots now = fun_ext c.calls.invariant.slots in
     let told = subst (λ (b : Bool). Called (f.me c.calls.files) b call reply (f.history c.calls.files) (f.history c.call-reply.new.self)) within c.call-reply.ensures.told in
     record {
       calm = λ e. goes.covers (hurt_then seen (m.slots now) (m.hurt now) call reply same within c.calls.invariant.calm (sym c.call-reply.ensures.seen.hurt ∙ e));

@@ -1,0 +1,4 @@
+pub mod Calls
+pub mod Still
+pub mod Outcome
+pub mod Finding

@@ -1,0 +1,4 @@
+pub mod Holds
+pub mod Phases
+pub mod Laws
+pub mod Lookup
