@@ -17,6 +17,13 @@ use Rattle.folder_store.specs.declared.get.Phase.TheVariants.{Opening, Measuring
 use Rattle.folder_store.specs.declared.get.FolderGet.{FolderGet}
 use Rattle.folder_store.specs.Holds.{Finds}
 
+-- a lookup of this key for this driver in this root, which has done nothing yet
+pub record IsNew (root : ℕ) (driver : DriverKeys) (key : Key) (m : FolderGet) : Type 0 where
+  pub root_is : m.root ≡ root
+  pub driver_is : m.driver ≡ driver
+  pub key_is : m.key ≡ key
+  pub opening : m.phase ≡ Opening
+
 -- ---- what it asks
 
 abbrev pub asks_in : ℕ → Key → Phase → Step

@@ -1,7 +1,7 @@
 ghost use Rattle.std.specs.Prelude.{◌≡◌, nat_lt, if◌then◌else◌};
 ghost use Rattle.item_frame.specs.Item.{Reads};
 ghost use Rattle.folder_store.specs.Holds.{Finds};
-ghost use Rattle.folder_store.specs.Phases.{Next, fault};
+ghost use Rattle.folder_store.specs.Phases.{IsNew, Next, fault};
 
 use cache_types::{Answer, Driver, Key, MAX_ITEM, Name};
 use file_log::{Call, Reply};
@@ -47,7 +47,7 @@ pub struct FolderGet {
 impl FolderGet {
     /// A lookup of a key for a driver in the store of this root. Takes no memory.
     pub fn new(alloc: Global, root: u32, driver: Driver, key: Key) -> FolderGet
-        ensures { result ≡ record { root = root; driver = driver; key = key; alloc = alloc; phase = Phase.Opening } }
+        ensures { IsNew root driver key result }
     {
         FolderGet {
             root,
