@@ -1,0 +1,8 @@
+//! All operations: [`run_op`] does any request over any files.
+#![tactic(auto)]
+
+mod operation;
+mod state;
+
+pub use operation::run_op;
+pub use state::SeatState;

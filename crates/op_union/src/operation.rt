@@ -1,0 +1,70 @@
+ghost use Rattle.std.specs.Prelude.{◌≡◌, ◌≤◌};
+ghost use Rattle.file_log.specs.Seat.{IsIdle};
+ghost use Rattle.folder_store.specs.Lookup.{LookedUp};
+ghost use Rattle.op_union.specs.Requests.{IsBuilt, Belongs, store_of, kept_after, Operates};
+
+use crate::state::SeatState;
+use cache_types::{Answer, Driver, Key, Request, RoPlan, Store};
+use files_api::Files;
+use folder_store::folder_get;
+use std::alloc::Global;
+
+/// Looks a key up in a folder store. The driver is copied, since the Begin keeps one.
+fn look_up<F: Files>(
+    alloc: Global,
+    files: &mut F,
+    store: Store,
+    driver: Driver,
+    key: Key,
+    ro: RoPlan,
+) -> Answer
+    requires { IsIdle (F.seen files.old) }
+    ensures done { LookedUp (F.me files.old) (Request.Get store driver key ro) store.root driver key (F.history files.old) (F.history files.new) (F.faults files.old) (F.faults files.new) result }
+    ensures idle { IsIdle (F.seen files.new) }
+    ensures me { F.me files.new ≡ F.me files.old }
+    ensures faults { F.faults files.old ≤ F.faults files.new }
+{
+    let Ok(told) = driver.copy() else {
+        return Answer::NoMemory;
+    };
+    let request = Request::Get {
+        store,
+        driver: told,
+        key,
+        ro,
+    };
+    folder_get(alloc, files, store.root, driver, key, request)
+}
+
+/// Does a request: tells its Begin, makes its calls, and tells its End.
+///
+/// Afterwards every slot of the seat is empty, and the files may be used again, whatever the answer. Where
+/// there is no memory to begin, nothing is told and the answer is `NoMemory`.
+pub fn run_op<F: Files>(
+    alloc: Global,
+    files: &mut F,
+    state: &mut SeatState,
+    request: Request,
+) -> Answer
+    requires idle { IsIdle (F.seen files.old) }
+    requires built { IsBuilt request }
+    requires belongs { Belongs state.old.store (store_of request) }
+    ensures done { Operates (F.me files.old) request (F.history files.old) (F.history files.new) (F.faults files.old) (F.faults files.new) result }
+    ensures idle { IsIdle (F.seen files.new) }
+    ensures me { F.me files.new ≡ F.me files.old }
+    ensures faults { F.faults files.old ≤ F.faults files.new }
+    ensures store { state.new.store ≡ kept_after state.old.store (store_of request) }
+{
+    match request {
+        Request::Get {
+            store,
+            driver,
+            key,
+            ro,
+        } => {
+            state.store = Some(store);
+            look_up(alloc, files, store, driver, key, ro)
+        }
+        _ => Answer::NoMemory,
+    }
+}
