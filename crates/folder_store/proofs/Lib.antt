@@ -2,4 +2,4 @@ pub mod Calls
 pub mod Still
 pub mod Outcome
 pub mod Finding
-pub mod Lookup
+pub mod WholeLookup

@@ -2,5 +2,7 @@
 #![tactic(auto)]
 
 mod get;
+mod lookup;
 
 pub use get::FolderGet;
+pub use lookup::folder_get;
