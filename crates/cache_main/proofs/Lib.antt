@@ -1,2 +1,4 @@
 pub mod Elements
 pub mod Pieces
+pub mod Readings
+pub mod Statuses

@@ -16,10 +16,10 @@ use report_text::{Status, status_of, word_of};
 use std::alloc::Global;
 
 /// Looks up what the words ask for, in one operation.
-fn look_up<F: Files>(alloc: Global, files: &mut F, found: LookupWords, key: Key) -> Answer
+fn look_up<F: Files>(alloc: Global, files: &mut F, found: &LookupWords, key: Key) -> Answer
     requires idle { IsIdle (F.seen files.old) }
-    requires fit { IsFit (lookup_of found) }
-    ensures done { Operates (F.me files.old) (request_of (lookup_of found) key) (F.history files.old) (F.history files.new) (F.faults files.old) (F.faults files.new) result }
+    requires fit { IsFit (lookup_of found.now) }
+    ensures done { Operates (F.me files.old) (request_of (lookup_of found.now) key) (F.history files.old) (F.history files.new) (F.faults files.old) (F.faults files.new) result }
     ensures idle { IsIdle (F.seen files.new) }
     ensures me { F.me files.new ≡ F.me files.old }
     ensures faults { F.faults files.old ≤ F.faults files.new }
@@ -98,6 +98,6 @@ pub fn run<F: Files, S: Source, K: Sink>(
     let Ok(key) = key_of_text(found.key) else {
         return Status::BadKey;
     };
-    let answer = look_up(alloc, files, found, key);
+    let answer = look_up(alloc, files, &found, key);
     print(out, &answer)
 }
