@@ -106,10 +106,7 @@ mod tests {
         assert_eq!(rt; bytes.len() as u64, MAX_ITEM);
         let item = read_item(rt.alloc(), &driver, &bytes)?;
         assert_eq!(rt; item.blob.len() as usize, MAX_BLOB);
-        match item.meta {
-            Meta::Unknown => assert!(rt; false),
-            Meta::Glsl(keys) => assert_eq!(rt; keys.as_slice().len(), MAX_KEYS),
-        }
+        assert!(rt; matches!(&item.meta, Meta::Glsl(keys) if keys.as_slice().len() == MAX_KEYS));
         Ok(())
     }
 }
