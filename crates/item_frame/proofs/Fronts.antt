@@ -7,6 +7,7 @@ use Rattle.std.proofs.lemmas.Nat.{from_le_bytes-to_le_bytes_4, from_le_bytes-to_
 use Rattle.cache_types.specs.declared.limits.TheConstants.{MAX_BLOB}
 use Rattle.cache_types.specs.declared.meta.Meta.{Meta}
 use Rattle.cache_types.specs.Driver.{DriverKeys, blob_of, IsDriver}
+use Rattle.cache_types.proofs.Blobs.{blob_parts}
 use Rattle.crc_small.specs.Sum.{Sum}
 use Rattle.item_frame.specs.Item.{meta_bytes, payload_bytes, IsMeta}
 use Rattle.item_frame.specs.Reading.{meta_at}
@@ -30,13 +31,6 @@ front_split a b r s len e = (
   sym (take_at a r (length b) len) ∙ ap (take (length b)) e ∙ take_at b s (length b) refl,
   sym (drop_at a r (length b) len) ∙ ap (drop (length b)) e ∙ drop_at b s (length b) refl,
 )
-
--- a driver keys blob before other bytes, part by part
-blob_parts : (d : DriverKeys) (r : List ℕ) → blob_of d ++ r ≡ 1 ∷ (d.id ++ (0 ∷ (d.gpu ++ (0 ∷ (8 ∷ (to_le_bytes w64 d.flags ++ r))))))
-unfolding blob_of
-blob_parts d r =
-    let flags = to_le_bytes w64 d.flags in
-    ap (λ (x : List ℕ). 1 ∷ x) (append_assoc d.id (0 ∷ d.gpu ++ (0 ∷ 8 ∷ flags)) r ∙ ap (λ (x : List ℕ). d.id ++ (0 ∷ x)) (append_assoc d.gpu (0 ∷ 8 ∷ flags) r))
 
 -- bytes begin with the keys blob of one driver at most
 pub one_driver : (d e : DriverKeys) (r s : List ℕ) → IsDriver d → IsDriver e → blob_of d ++ r ≡ blob_of e ++ s → (d ≡ e) × (r ≡ s)

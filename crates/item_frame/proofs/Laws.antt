@@ -8,6 +8,7 @@ use Rattle.cache_types.specs.declared.limits.TheConstants.{MAX_ITEM}
 use Rattle.cache_types.specs.declared.meta.Meta.{Meta}
 use Rattle.cache_types.specs.declared.meta.Meta.TheVariants.{Unknown, Glsl}
 use Rattle.cache_types.specs.Driver.{DriverKeys, blob_of, IsDriver}
+use Rattle.cache_types.proofs.Blobs.{length-blob_of}
 use Rattle.item_frame.specs.declared.refusal.ItemRefusal.{ItemRefusal}
 use Rattle.item_frame.specs.Item.{meta_bytes, payload_bytes, item_of, IsMeta, ReadsAs, Reads, IsItem, IsOnlyItem}
 use Rattle.item_frame.specs.Reading.{body_at, rest_at, next_at, item_at, meta_at}
@@ -87,10 +88,6 @@ pub no_proper_prefix : (d e : DriverKeys) (bytes more a b : List ℕ) → IsDriv
 no_proper_prefix d e bytes more a b d_is e_is r s = ap (λ (x : List ℕ). bytes ++ x) (only_item d bytes a d_is r e more b e_is s).1 ∙ append-nil bytes
 
 -- ---- lengths
-
-pub length-blob_of : (d : DriverKeys) → length (blob_of d) ≡ length d.id + length d.gpu + 12
-unfolding blob_of
-length-blob_of d = omega (arith, length-append d.id (0 ∷ d.gpu ++ (0 ∷ 8 ∷ to_le_bytes w64 d.flags)), length-append d.gpu (0 ∷ 8 ∷ to_le_bytes w64 d.flags))
 
 pub length-meta_bytes : (keys : List Key) → IsMeta (Glsl keys) → length (meta_bytes (Glsl keys)) ≡ 8 + 20 * length keys
 length-meta_bytes keys fits = omega (arith, length-append (to_le_bytes w32 (length keys)) (flat keys), length-flat keys fits.1)
