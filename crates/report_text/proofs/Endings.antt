@@ -1,5 +1,5 @@
 -- What a line ends in, where its last part stands after a space.
-use Rattle.std.proofs.Common.{◌≡◌, ◌<◌, ◌≤◌, ◌-◌, ℕ, Bool, true, false, ◌||◌, ◌&&◌, List, [], ◌∷◌, ◌++◌, length, drop, suc, eqb, refl, sym, ap, ◌∙◌, arith, append_assoc, rules, inl, inr, codes}
+use Rattle.std.proofs.Common.{◌≡◌, ◌-◌, ℕ, Bool, true, false, ◌||◌, List, [], ◌∷◌, ◌++◌, length, suc, eqb, refl, sym, arith, inl, inr, codes}
 use Rattle.std.specs.List.{ends_with}
 use Rattle.std.specs.Cmp.Lexicographic.{pointwise, unequal, nat_list_eq_equiv}
 use Rattle.std.proofs.Math.Bool.{or-false, and-false}
