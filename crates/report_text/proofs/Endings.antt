@@ -62,7 +62,7 @@ spaced_well front last =
       spaced front last (codes "OtherFormat") refl,
     ) refl
 
--- after a space
+-- what a line ends in that begins with a space: the word is the rest, or the rest ends in it
 after_space : (last word : List ℕ) → ends_with eqb (32 ∷ last) (32 ∷ word) ≡ (pointwise eqb last word || ends_with eqb last (32 ∷ word))
 after_space last word = rw (nat_list_eq_equiv.symm last word) (ends-cons 32 last (32 ∷ word))
 
