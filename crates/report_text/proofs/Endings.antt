@@ -1,5 +1,5 @@
 -- What a line ends in, where its last part stands after a space.
-use Rattle.std.proofs.Common.{◌≡◌, ◌<◌, ◌≤◌, ◌-◌, ℕ, Bool, true, false, ◌||◌, ◌&&◌, List, [], ◌∷◌, ◌++◌, length, drop, suc, eqb, refl, sym, ap, ◌∙◌, arith, append_assoc, rules, inl, inr, codes}
+use Rattle.std.proofs.Common.{◌≡◌, ◌-◌, ℕ, Bool, true, false, ◌||◌, List, [], ◌∷◌, ◌++◌, length, suc, eqb, refl, sym, arith, inl, inr, codes}
 use Rattle.std.specs.List.{ends_with}
 use Rattle.std.specs.Cmp.Lexicographic.{pointwise, unequal, nat_list_eq_equiv}
 use Rattle.std.proofs.Math.Bool.{or-false, and-false}
@@ -62,7 +62,7 @@ spaced_well front last =
       spaced front last (codes "OtherFormat") refl,
     ) refl
 
--- after a space
+-- what a line ends in that begins with a space: the word is the rest, or the rest ends in it
 after_space : (last word : List ℕ) → ends_with eqb (32 ∷ last) (32 ∷ word) ≡ (pointwise eqb last word || ends_with eqb last (32 ∷ word))
 after_space last word = rw (nat_list_eq_equiv.symm last word) (ends-cons 32 last (32 ∷ word))
 

@@ -1,5 +1,4 @@
-use Rattle.std.proofs.Common.{◌≡◌, ◌++◌, ◌∷◌, refl}
-use Rattle.report_text.specs.Outcomes.{ends_well, is_no_damage}
+use Rattle.std.proofs.Common.{refl}
 use Rattle.report_text.proofs.Endings.{closed}
 use Rattle.report_text.proofs.outcome.closes_well.Goals as goal
 

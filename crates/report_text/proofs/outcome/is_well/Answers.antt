@@ -1,4 +1,4 @@
-use Rattle.std.proofs.Common.{◌≡◌, ◌++◌, ◌∷◌, sym, ◌∙◌, rules, append_assoc}
+use Rattle.std.proofs.Common.{◌≡◌, ◌++◌, ◌∷◌, append_assoc}
 use Rattle.report_text.specs.Lines.{row_line, place_part, key_part}
 use Rattle.report_text.specs.Outcomes.{ends_well}
 use Rattle.report_text.proofs.Endings.{spaced_well}
