@@ -13,7 +13,6 @@ use Rattle.file_log.specs.declared.reply.Reply.{Reply}
 use Rattle.file_log.specs.declared.reply.Reply.TheVariants as replies
 use Rattle.file_log.specs.Exchange.{Answers, Makes, Exchange}
 use Rattle.file_log.specs.Operation.{NamesOnly, IsWithinRoot, is_next, next_place, calls_from, calls_in}
-use Rattle.files_api.specs.declared.machine.Step.{Step}
 use Rattle.files_api.specs.declared.machine.Step.TheVariants.{Ask, Done}
 use Rattle.files_api.specs.Drive.{Runs, items_of_all}
 use Rattle.folder_store.specs.declared.get.FolderGet.{FolderGet}

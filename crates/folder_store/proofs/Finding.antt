@@ -1,5 +1,5 @@
 -- A lookup that nobody disturbs, none of whose calls fails, answers by what the store holds.
-use Rattle.std.proofs.Common.{◌≡◌, ◌<◌, ◌≤◌, ℕ, Bool, true, false, cond, ltb, List, [], ◌∷◌, ◌++◌, length, take, drop, Option, Some, None, IsSome, refl, sym, ap, subst, ◌∙◌, arith}
+use Rattle.std.proofs.Common.{◌≡◌, ◌<◌, ℕ, Bool, true, false, cond, ltb, List, [], ◌∷◌, length, take, drop, Option, Some, None, IsSome, refl, sym, ap, subst, ◌∙◌, arith}
 use Rattle.std.specs.Prelude.{IsSomeAnd}
 use Rattle.std.proofs.Math.Seq.{take-length}
 use Rattle.std.proofs.lemmas.Bool.{ltb-true, eq-eqb}
@@ -9,8 +9,7 @@ use Rattle.cache_types.specs.declared.limits.TheConstants.{MAX_ITEM}
 use Rattle.cache_types.specs.declared.name.Name.TheVariants.{Entry}
 use Rattle.cache_types.specs.declared.seat.Who.{Who}
 use Rattle.cache_types.specs.Driver.{DriverKeys, IsDriver}
-use Rattle.file_log.specs.declared.call.Call.{Call}
-use Rattle.file_log.specs.declared.call.Call.TheVariants.{OpenOld, Length, ReadAt, Close}
+use Rattle.file_log.specs.declared.call.Call.TheVariants.{OpenOld, Length, ReadAt}
 use Rattle.file_log.specs.declared.item.LogItem.{LogItem}
 use Rattle.file_log.specs.declared.reply.Reply.{Reply}
 use Rattle.file_log.specs.declared.reply.Reply.TheVariants as replies
@@ -24,8 +23,7 @@ use Rattle.files_api.specs.Drive.{items_of_all}
 use Rattle.item_frame.specs.Item.{Reads}
 use Rattle.item_frame.proofs.Laws.{at_most}
 use Rattle.folder_store.specs.declared.get.FolderGet.{FolderGet}
-use Rattle.folder_store.specs.declared.get.Phase.{Phase}
-use Rattle.folder_store.specs.declared.get.Phase.TheVariants.{Opening, Measuring, Reading, Closing, Ended}
+use Rattle.folder_store.specs.declared.get.Phase.TheVariants.{Opening, Measuring, Reading, Closing}
 use Rattle.folder_store.specs.Holds.{FileReads, FolderHolds, Finds}
 use Rattle.folder_store.specs.Phases.{asked, Fed}
 use Rattle.folder_store.proofs.Calls.{From, Stepped, stepped, asks_at, next_of, not_done, item_for}

@@ -1,5 +1,5 @@
 -- Which answer a lookup ends with, and that a fault is one that its log tells.
-use Rattle.std.proofs.Common.{◌≡◌, ◌⊎◌, inl, inr, ◌↔◌, ℕ, Bool, true, false, cond, ltb, List, [], ◌∷◌, refl, sym, ap, subst, ◌∙◌}
+use Rattle.std.proofs.Common.{◌≡◌, inl, inr, ℕ, Bool, true, false, cond, ltb, List, [], ◌∷◌, refl, sym, ap, ◌∙◌}
 use Rattle.std.specs.List.{list_any}
 use Rattle.cache_types.specs.declared.answer.Answer.{Answer}
 use Rattle.cache_types.specs.declared.answer.Answer.TheVariants as answers
@@ -16,11 +16,9 @@ use Rattle.file_log.specs.Operation.{is_fault}
 use Rattle.files_api.specs.Drive.{items_of_all, SomeFailed}
 use Rattle.item_frame.specs.Item.{Reads}
 use Rattle.folder_store.specs.declared.get.FolderGet.{FolderGet}
-use Rattle.folder_store.specs.declared.get.Phase.{Phase}
 use Rattle.folder_store.specs.declared.get.Phase.TheVariants.{Opening, Measuring, Reading, Closing, Ended}
 use Rattle.folder_store.specs.Holds.{Finds}
 use Rattle.folder_store.specs.Lookup.{IsLookupAnswer}
-use Rattle.folder_store.specs.Phases.{asks_in}
 use Rattle.folder_store.proofs.Calls.{From, Stepped, stepped, asks_at, next_of, done_is, not_done, not_ask, item_for}
 
 -- a call failed among these items other than for want of memory

@@ -66,7 +66,7 @@ module _ {M : Type 0} (asks : M → Step) (asked : M → M) (fed : M → Reply �
   inductive : Inductive asks asked fed me after IsLegal (LeavesAll me) Between During
   inductive = record {
     enters = λ m call reply made s inv e fits makes.
-    subst (AllByRecursion ChangesNothing) (sym (makes_one me call reply made (looks m call e) makes)) (looking_changes me call reply (looks m call e), tt);
+        subst (AllByRecursion ChangesNothing) (sym (makes_one me call reply made (looks m call e) makes)) (looking_changes me call reply (looks m call e), tt);
     steps = λ m call reply item made s during legal. (λ mine. during.0 s, during.1);
     others = λ m call reply made other s during o stop legal rule. during;
     between = λ m other s inv o stop legal rule. tt;

@@ -1,6 +1,5 @@
 -- What a whole lookup does, from its Begin to its End.
 use Rattle.std.proofs.Common.{◌≡◌, ◌≤◌, ◌⊎◌, inl, inr, ◌↔◌, ℕ, length, Bool, true, false, ◌||◌, List, [], ◌∷◌, ◌++◌, Option, Some, None, refl, sym, ap, subst, ◌∙◌, arith}
-use Rattle.std.specs.List.{list_any}
 use Rattle.cache_types.specs.declared.answer.Answer.{Answer}
 use Rattle.cache_types.specs.declared.answer.Answer.TheVariants as answers
 use Rattle.cache_types.specs.declared.key.Key.{Key}
@@ -10,23 +9,22 @@ use Rattle.cache_types.specs.Answers.{IsSmall}
 use Rattle.cache_types.specs.Driver.{DriverKeys, IsDriver}
 use Rattle.file_log.specs.declared.item.LogItem.{LogItem}
 use Rattle.file_log.specs.declared.item.LogItem.TheVariants.{Begin, End}
-use Rattle.file_log.specs.Along.{All}
 use Rattle.file_log.specs.Legal.{Legal}
 use Rattle.file_log.specs.Log.{History, own}
-use Rattle.file_log.specs.Operation.{LeavesAll, NoneFailed, is_fault, IsOperation}
+use Rattle.file_log.specs.Operation.{LeavesAll, NoneFailed, is_fault}
 use Rattle.file_log.specs.State.{State, after, state_of}
-use Rattle.file_log.specs.Told.{Grows, Owns, OwnsToEnd, Rose}
+use Rattle.file_log.specs.Told.{Grows}
 use Rattle.file_log.proofs.All.{none_keeps}
 use Rattle.files_api.specs.Drive.{items_of_all, IsEndOf, Refused, Unmade, Operated}
 use Rattle.std.proofs.lemmas.List.Folds.{list_any-append}
 use Rattle.folder_store.specs.declared.get.FolderGet.{FolderGet}
 use Rattle.folder_store.specs.declared.get.Phase.{Phase}
 use Rattle.folder_store.specs.Holds.{FolderHolds, Finds}
-use Rattle.folder_store.specs.Lookup.{IsLookupAnswer, LooksUp, LookedUp}
+use Rattle.folder_store.specs.Lookup.{IsLookupAnswer, LookedUp}
 use Rattle.folder_store.specs.Phases.{asks, asked, Fed, left_in, IsNew}
 use Rattle.folder_store.proofs.Calls.{looks, all_within, calls_at_most}
 use Rattle.folder_store.proofs.Still.{all_as_own, looking_stays, nothing_stays}
-use Rattle.folder_store.proofs.Outcome.{any_fault, Outcome, outcome}
+use Rattle.folder_store.proofs.Outcome.{any_fault, outcome}
 use Rattle.folder_store.proofs.Finding.{finding}
 
 -- what follows on what is known of new items
@@ -59,10 +57,10 @@ module _ (me : Who) (request : Request) (root : ℕ) (driver : DriverKeys) (key 
     kind = no_memory_kind r.answer_is;
     cause = λ e. absurd (no_fault r.answer_is e);
     told = Grows-map old new _ _ r.told (λ h news o. record {
-    operation = inl (o.own_items, r.answer_is);
-    finds = λ alone none. rw r.answer_is tt;
-    still = all_as_own after (LeavesAll me) me (λ s item other mine. let clash : false ≡ true = sym other ∙ mine in absurd cc) (state_of h) news (none_keeps after (LeavesAll me) me (state_of h) news o.own_items);
-    fault = never (own me news) r.answer_is (ap any_fault o.own_items);
+      operation = inl (o.own_items, r.answer_is);
+      finds = λ alone none. rw r.answer_is tt;
+      still = all_as_own after (LeavesAll me) me (λ s item other mine. let clash : false ≡ true = sym other ∙ mine in absurd cc) (state_of h) news (none_keeps after (LeavesAll me) me (state_of h) news o.own_items);
+      fault = never (own me news) r.answer_is (ap any_fault o.own_items);
     });
   }
 
@@ -71,10 +69,10 @@ module _ (me : Who) (request : Request) (root : ℕ) (driver : DriverKeys) (key 
     kind = no_memory_kind r.answer_is;
     cause = λ e. absurd (no_fault r.answer_is e);
     told = Grows-map old new _ _ r.told (λ h news o. record {
-    operation = inr (record { inner = []; whole = o.owns.own_items ∙ ap (λ (a : Answer). Begin me request ∷ End me a ∷ []) (sym r.answer_is); within = tt; few = omega arith });
-    finds = λ alone none. rw r.answer_is tt;
-    still = nothing_stays me request news (state_of h) o.owns.own_items o.owns.legal o.owns.goes_on;
-    fault = never (own me news) r.answer_is (ap any_fault o.owns.own_items);
+      operation = inr (record { inner = []; whole = o.owns.own_items ∙ ap (λ (a : Answer). Begin me request ∷ End me a ∷ []) (sym r.answer_is); within = tt; few = omega arith });
+      finds = λ alone none. rw r.answer_is tt;
+      still = nothing_stays me request news (state_of h) o.owns.own_items o.owns.legal o.owns.goes_on;
+      fault = never (own me news) r.answer_is (ap any_fault o.owns.own_items);
     });
   }
 
@@ -116,12 +114,12 @@ module _ (me : Who) (request : Request) (root : ℕ) (driver : DriverKeys) (key 
         kind = end_kind r.given r.answer_is out.kind;
         cause = λ e. r.counts.rose (out.failed (fault_given r.given r.answer_is e));
         told = Grows-map old new _ _ r.told (λ h news o. record {
-        operation = inr (record { inner = inner; whole = o.owns.own_items; within = all_within me root r.first r.last r.exchanges r.given begun.root_is r.runs; few = calls_at_most me r.first r.last r.exchanges r.given 4 r.runs few });
-        finds = λ alone none. end_finds r.given _ r.answer_is (found r begun fits h news (sym alone ∙ o.owns.own_items) o.owns.legal none);
-        still = looking_stays asks asked Fed me looks r.first request answer news (state_of h) r.exchanges r.given r.last r.runs r.answer_is o.owns.own_items o.owns.legal o.owns.goes_on;
-        fault =
-            let same : any_fault (own me news) ≡ any_fault inner = ap any_fault o.owns.own_items ∙ any_inside inner in
-            (λ e. same ∙ out.told (fault_given r.given r.answer_is e), λ some. fault_told r.given r.answer_is (out.only (sym same ∙ some)));
+          operation = inr (record { inner = inner; whole = o.owns.own_items; within = all_within me root r.first r.last r.exchanges r.given begun.root_is r.runs; few = calls_at_most me r.first r.last r.exchanges r.given 4 r.runs few });
+          finds = λ alone none. end_finds r.given _ r.answer_is (found r begun fits h news (sym alone ∙ o.owns.own_items) o.owns.legal none);
+          still = looking_stays asks asked Fed me looks r.first request answer news (state_of h) r.exchanges r.given r.last r.runs r.answer_is o.owns.own_items o.owns.legal o.owns.goes_on;
+          fault =
+              let same : any_fault (own me news) ≡ any_fault inner = ap any_fault o.owns.own_items ∙ any_inside inner in
+              (λ e. same ∙ out.told (fault_given r.given r.answer_is e), λ some. fault_told r.given r.answer_is (out.only (sym same ∙ some)));
         });
       }
     where

@@ -1,5 +1,5 @@
 -- A lookup asks what its slots allow, and a reply moves them.
-use Rattle.std.specs.Prelude.{◌≡◌, ◌<◌, ℕ, Bool, true, false, nat_eq, nat_lt, cond}
+use Rattle.std.specs.Prelude.{◌≡◌, ℕ, Bool, true, false, nat_eq, nat_lt, cond}
 use Rattle.std.proofs.Common.{refl, sym, ap, subst, arith}
 use Rattle.cache_types.specs.declared.answer.Answer.TheVariants.{Miss}
 use Rattle.cache_types.specs.declared.key.Key.{Key}
