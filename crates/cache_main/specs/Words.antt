@@ -45,3 +45,7 @@ lookup_of found = record { id = found.id.now; gpu = found.gpu.now; root = found.
 abbrev pub Finds : List (List ℕ) → Option LookupWords → Type 0
 Finds words None = (l : Lookup) → IsLookup words l → ⊥
 Finds words (Some found) = IsLookup words (lookup_of found)
+
+-- these roots are the one that the words name
+abbrev pub HasRoot : List (List ℕ) → List (List ℕ) → Type 0
+HasRoot words roots = (l : Lookup) × IsLookup words l × (roots ≡ l.root ∷ [])
