@@ -1,14 +1,10 @@
 -- Lines of keys, and of what `verify` found.
 use Rattle.std.specs.Prelude.{ℕ, List, [], ◌++◌, codes, decimal, Option, Some, None}
 use Rattle.std.specs.List.{flat_map}
-use Rattle.hex.specs.Hex.{encode_lower}
+use Rattle.cache_key.specs.Digits.{digits_of}
 use Rattle.cache_types.specs.declared.key.Key.{Key}
 use Rattle.cache_types.specs.declared.row.Row.{Row}
 use Rattle.cache_types.specs.declared.row.Row.TheVariants as rows
-
--- a key's 40 digits, in lower case
-abbrev pub key_digits : Key → List ℕ
-key_digits key = encode_lower key.bytes
 
 -- a line's end
 abbrev pub line_end : List ℕ
@@ -16,7 +12,7 @@ line_end = codes "\n"
 
 -- one key a line
 abbrev pub key_lines : List Key → List ℕ
-key_lines keys = flat_map (λ key. key_digits key ++ line_end) keys
+key_lines keys = flat_map (λ key. digits_of key ++ line_end) keys
 
 -- the row's place in the index and a space, where it has one
 abbrev pub place_part : Option ℕ → List ℕ
@@ -26,7 +22,7 @@ place_part (Some place) = decimal place ++ codes " "
 -- the key, or a dash where there is none
 abbrev pub key_part : Option Key → List ℕ
 key_part None = codes "-"
-key_part (Some key) = key_digits key
+key_part (Some key) = digits_of key
 
 -- a row's line, before its end
 abbrev pub row_line : Row → List ℕ

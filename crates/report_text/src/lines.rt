@@ -1,17 +1,9 @@
 ghost use Rattle.std.specs.Prelude.{◌≡◌, ◌++◌, IfOk, OnOk, string_bytes};
-ghost use Rattle.report_text.specs.Lines.{key_digits, key_lines, row_line, row_lines};
+ghost use Rattle.report_text.specs.Lines.{key_lines, row_line, row_lines};
 
+use cache_key::key_text;
 use cache_types::{Key, NoMemory, Row};
 use std::alloc::Global;
-
-/// Adds a key's 40 digits.
-fn push_key(alloc: Global, text: &mut String, key: &Key) -> Result<(), NoMemory>
-    ensures { OnOk result (string_bytes text.new ≡ string_bytes text.old ++ key_digits key.now) }
-{
-    let digits = hex::encode(alloc, key.bytes)?;
-    text.push_str(digits.as_str())?;
-    Ok(())
-}
 
 /// Adds a line of `verify`, without its newline.
 fn push_row(alloc: Global, text: &mut String, row: &Row) -> Result<(), NoMemory>
@@ -28,7 +20,7 @@ fn push_row(alloc: Global, text: &mut String, row: &Row) -> Result<(), NoMemory>
                 write!(text, "{place} ")?;
             }
             match key {
-                Some(key) => push_key(alloc, text, key)?,
+                Some(key) => text.push_str(key_text(alloc, key)?.as_str())?,
                 None => text.push_str("-")?,
             }
             write!(text, " {}", finding.as_str())?;
@@ -43,7 +35,7 @@ pub fn text_of_keys(alloc: Global, keys: &[Key]) -> Result<String, NoMemory>
 {
     let mut text = String::new(alloc);
     for key in keys {
-        push_key(alloc, &mut text, key)?;
+        text.push_str(key_text(alloc, key)?.as_str())?;
         text.push_str("\n")?;
     }
     Ok(text)
