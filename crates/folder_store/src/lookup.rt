@@ -34,3 +34,43 @@ pub fn folder_get<F: Files>(
         Ok(FolderGet::new(alloc, root, driver, key))
     })
 }
+
+#[cfg(test)]
+mod tests {
+    use crate::get::FolderGet;
+    use cache_types::{Answer, Bytes, Driver, Key};
+    use file_log::Reply;
+    use files_api::{Machine, Step};
+    use std::alloc::Global;
+
+    // The item of the driver `a` on the GPU `b` with no flags, of unknown making; the sum is zlib's.
+    const ITEM: &[u8] = b"\x01a\0b\0\x08\0\0\0\0\0\0\0\0\0\0\0\0\x28\x9e\xf3\xff\x06\0\0\0shader";
+
+    fn step(lookup: &mut FolderGet, reply: Reply) {
+        let _asked = lookup.next();
+        lookup.feed(reply);
+    }
+
+    fn found(alloc: Global, item: &[u8]) -> Option<Bytes> {
+        let driver = Driver::new(alloc, "a", "b", 0).ok()?;
+        let bytes = Bytes::of(alloc, item).ok()?;
+        let mut lookup = FolderGet::new(alloc, 7, driver, Key { bytes: [9; 20] });
+        step(&mut lookup, Reply::Done);
+        step(&mut lookup, Reply::Number(item.len() as u64));
+        step(&mut lookup, Reply::Got(bytes));
+        step(&mut lookup, Reply::Done);
+        match lookup.next() {
+            Step::Done(Answer::Hit(blob)) => Some(blob),
+            _ => None,
+        }
+    }
+
+    // With memory a lookup of an item gives its blob.
+    #[test]
+    fn an_item_is_found(rt: HostRuntime) {
+        match found(rt.alloc(), ITEM) {
+            Some(blob) => assert_eq!(rt; blob.as_slice(), b"shader".as_slice()),
+            None => assert!(rt; false),
+        }
+    }
+}
