@@ -1,0 +1,58 @@
+ghost use Rattle.std.specs.Prelude.{◌≡◌, ◌≤◌, ◌<◌, ◌+◌, true, false, Some, if◌then◌else◌};
+ghost use Rattle.std.specs.Vec.{vec_len, vec_capacity};
+ghost use Rattle.cache_types.specs.Seats.{same_seat};
+ghost use Rattle.cache_types.specs.declared.seat.Who.{Who};
+ghost use Rattle.file_model.specs.declared.parts.OpenOperation.{OpenOperation};
+ghost use Rattle.file_model.specs.Operations.{operation_of as the_operation, course_in};
+ghost use Rattle.file_model.specs.Room.{ends, ends_of};
+
+use crate::parts::OpenOperation;
+use cache_types::Who;
+
+/// A seat's open operation.
+pub fn operation_of(operations: &[OpenOperation], who: Who) -> Option<OpenOperation>
+    ensures { result ≡ the_operation operations.now who }
+{
+    let mut rest = operations;
+    while let [first, tail @ ..] = rest {
+        if who.is(first.who) {
+            return Some(*first);
+        }
+        rest = tail;
+    }
+    None
+}
+
+/// Ends a seat's open operation.
+pub fn end(operations: &mut Vec<OpenOperation>, who: Who)
+    ensures courses { (w : Who) → course_in operations.new.items w ≡ (if same_seat w who then record { inside = false; hurt = false } else course_in operations.old.items w) }
+    ensures ends { (x : OpenOperation) → the_operation operations.old.items who ≡ Some x → ends operations.new.items + ends_of x.hurt ≤ ends operations.old.items }
+    ensures no_more { ends operations.new.items ≤ ends operations.old.items }
+    ensures fewer { (x : OpenOperation) → the_operation operations.old.items who ≡ Some x → vec_len operations.new + 1 ≤ vec_len operations.old }
+    ensures len { vec_len operations.new ≤ vec_len operations.old }
+    ensures capacity { vec_capacity operations.new ≡ vec_capacity operations.old }
+{
+    operations.retain(|operation| !operation.who.is(who));
+}
+
+/// Begins an operation of a seat, in memory that was taken for it.
+pub fn begin(operations: &mut Vec<OpenOperation>, who: Who)
+    requires { vec_len operations.old < vec_capacity operations.old }
+    ensures courses { (w : Who) → course_in operations.new.items w ≡ (if same_seat w who then record { inside = true; hurt = false } else course_in operations.old.items w) }
+    ensures ends { ends operations.new.items ≤ ends operations.old.items + 2 }
+{
+    end(operations, who);
+    let _begun = operations.insert(0, OpenOperation { who, hurt: false });
+}
+
+/// Hurts a seat's open operation. Takes no memory.
+pub fn hurt(operations: &mut Vec<OpenOperation>, who: Who)
+    ensures courses { (w : Who) → course_in operations.new.items w ≡ (if same_seat w who then record { inside = (course_in operations.old.items w).inside; hurt = (course_in operations.old.items w).inside } else course_in operations.old.items w) }
+    ensures ends { (x : OpenOperation) → the_operation operations.old.items who ≡ Some x → x.hurt ≡ false → ends operations.new.items + 1 ≤ ends operations.old.items }
+    ensures no_more { ends operations.new.items ≤ ends operations.old.items }
+{
+    if operation_of(operations, who).is_some() {
+        end(operations, who);
+        let _hurt = operations.insert(0, OpenOperation { who, hurt: true });
+    }
+}
