@@ -1,5 +1,5 @@
 -- What is found in a list from which elements were taken out, and what is left in it.
-use Rattle.std.proofs.Common.{◌≡◌, ◌≤◌, ℕ, ◌+◌, List, [], ◌∷◌, cond, Bool, true, false, not, ◌&&◌, nat_eq, Option, Some, None, refl, sym, ap, ◌∙◌, filter, arith}
+use Rattle.std.proofs.Common.{◌≡◌, ◌≤◌, ℕ, ◌+◌, List, [], ◌∷◌, cond, Bool, true, false, not, ◌&&◌, nat_eq, Option, Some, None, refl, sym, ap, ◌∙◌, filter, arith, length}
 use Rattle.std.specs.Prelude.{IsSome}
 use Rattle.std.proofs.lemmas.Bool.{eqb-true, eq-eqb}
 use Rattle.file_log.proofs.All.{seat_self}
@@ -12,6 +12,9 @@ use Rattle.file_log.specs.Disk.{Lock, is_slot}
 use Rattle.file_model.specs.declared.parts.NamedFile.{NamedFile}
 use Rattle.file_model.specs.declared.parts.OpenSlot.{OpenSlot}
 use Rattle.file_model.specs.declared.parts.TakenLock.{TakenLock}
+use Rattle.file_model.specs.declared.parts.OpenOperation.{OpenOperation}
+use Rattle.file_model.specs.Operations.{operation_of, course_in, course_from}
+use Rattle.file_model.specs.Room.{ends_of}
 use Rattle.file_model.specs.Find.{find_by, number_of, file_in, lock_of, lock_from, Once, total}
 
 -- ---- lists of anything
@@ -197,3 +200,36 @@ by_slot who at (Some lock) = refl
 -- locks that were freed
 pub lock_of-freed : (who : Who) (at : ℕ) (locks : List TakenLock) (f : ℕ) → Once locks → lock_of (filter (λ x. not (is_through who at x)) locks) f ≡ cond (is_slot (lock_of locks f) who at) None (lock_of locks f)
 lock_of-freed who at locks f o = lock_of-freed_by (λ lock. same_seat lock.who who && nat_eq at lock.slot) locks f o ∙ by_slot who at (lock_of locks f)
+
+-- ---- open operations
+
+abbrev pub is_another : Who → OpenOperation → Bool
+is_another who x = not (same_seat x.who who)
+
+goes_too : (who w : Who) (x : OpenOperation) → same_seat w x.who ≡ true → same_seat w who ≡ not (is_another who x)
+goes_too who w x e = let seat : w ≡ x.who = same_seat-true w x.who e in ap (λ (v : Who). same_seat v who) seat ∙ not_not (same_seat x.who who)
+
+at_course : (b : Bool) (o : Option OpenOperation) → course_from (cond b None o) ≡ cond b (course_from None) (course_from o)
+at_course true o = refl
+at_course false o = refl
+
+-- an operation that was ended
+pub course_in-ended : (who : Who) (operations : List OpenOperation) (w : Who) → course_in (filter (is_another who) operations) w ≡ cond (same_seat w who) (course_from None) (course_in operations w)
+course_in-ended who operations w =
+    ap course_from (dropped_if (same_seat w who) (λ x. same_seat w x.who) (λ x. x) (is_another who) operations (goes_too who w))
+    ∙ at_course (same_seat w who) (operation_of operations w)
+
+abbrev weight_of : OpenOperation → ℕ
+weight_of x = ends_of x.hurt
+
+-- each operation of the seat goes
+pub goes_out : (who : Who) (x : OpenOperation) → same_seat who x.who ≡ true → is_another who x ≡ false
+goes_out who x e = out (is_another who x) (sym (seat_self who) ∙ goes_too who who x e)
+  where
+    out : (k : Bool) → true ≡ not k → k ≡ false
+    out true e = absurd cc
+    out false e = refl
+
+pub total_one : {A : Type 0} (xs : List A) → total (λ (x : A). 1) xs ≡ length xs
+total_one [] = refl
+total_one (x ∷ xs) = omega (arith, total_one xs)

@@ -1,4 +1,4 @@
-ghost use Rattle.std.specs.Prelude.{◌≡◌, ◌≤◌, ◌<◌, ◌+◌, true, false, Some, if◌then◌else◌};
+ghost use Rattle.std.specs.Prelude.{◌≡◌, ◌≤◌, ◌<◌, ◌+◌, ◌∷◌, true, false, Some, if◌then◌else◌};
 ghost use Rattle.std.specs.Vec.{vec_len, vec_capacity};
 ghost use Rattle.cache_types.specs.Seats.{same_seat};
 ghost use Rattle.cache_types.specs.declared.seat.Who.{Who};
@@ -23,6 +23,14 @@ pub fn operation_of(operations: &[OpenOperation], who: Who) -> Option<OpenOperat
     None
 }
 
+/// Adds an operation, in memory that was taken for it.
+fn add(operations: &mut Vec<OpenOperation>, operation: OpenOperation)
+    requires { vec_len operations.old < vec_capacity operations.old }
+    ensures { operations.new.items ≡ operation ∷ operations.old.items }
+{
+    let _added = operations.insert(0, operation);
+}
+
 /// Ends a seat's open operation.
 pub fn end(operations: &mut Vec<OpenOperation>, who: Who)
     ensures courses { (w : Who) → course_in operations.new.items w ≡ (if same_seat w who then record { inside = false; hurt = false } else course_in operations.old.items w) }
@@ -42,7 +50,7 @@ pub fn begin(operations: &mut Vec<OpenOperation>, who: Who)
     ensures ends { ends operations.new.items ≤ ends operations.old.items + 2 }
 {
     end(operations, who);
-    let _begun = operations.insert(0, OpenOperation { who, hurt: false });
+    add(operations, OpenOperation { who, hurt: false });
 }
 
 /// Hurts a seat's open operation. Takes no memory.
@@ -51,8 +59,8 @@ pub fn hurt(operations: &mut Vec<OpenOperation>, who: Who)
     ensures ends { (x : OpenOperation) → the_operation operations.old.items who ≡ Some x → x.hurt ≡ false → ends operations.new.items + 1 ≤ ends operations.old.items }
     ensures no_more { ends operations.new.items ≤ ends operations.old.items }
 {
-    if operation_of(operations, who).is_some() {
+    if let Some(_operation) = operation_of(operations, who) {
         end(operations, who);
-        let _hurt = operations.insert(0, OpenOperation { who, hurt: true });
+        add(operations, OpenOperation { who, hurt: true });
     }
 }
