@@ -6,3 +6,6 @@ pub mod Calls
 pub mod Room
 pub mod Tables
 pub mod Operations
+pub mod Held
+pub mod Following
+pub mod Worlds

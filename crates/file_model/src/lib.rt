@@ -9,3 +9,6 @@ mod operations;
 mod parts;
 mod piece;
 mod tables;
+mod world;
+
+pub use world::World;

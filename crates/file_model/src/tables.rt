@@ -154,6 +154,7 @@ impl Tables {
         ensures err { OnErr result (disk_at self.new ≡ disk_at self.old) }
         ensures locks { self.new.locks ≡ self.old.locks }
         ensures closes { closes self.new.slots.items ≤ closes self.old.slots.items + 1 }
+        ensures no_more { OnErr result (closes self.new.slots.items ≤ closes self.old.slots.items) }
     {
         match number_of(&self.names, name) {
             None => empty(&mut self.slots, who, slot),
@@ -168,6 +169,7 @@ impl Tables {
         ensures err { OnErr result (disk_at self.new ≡ disk_at self.old) }
         ensures locks { self.new.locks ≡ self.old.locks }
         ensures closes { closes self.new.slots.items ≤ closes self.old.slots.items + 1 }
+        ensures no_more { OnErr result (closes self.new.slots.items ≤ closes self.old.slots.items) }
     {
         match number_of(&self.names, name) {
             Some(file) => {
@@ -258,6 +260,7 @@ impl Tables {
         ensures err { OnErr result (disk_at self.new ≡ disk_at self.old) }
         ensures once { Once self.new.locks.items }
         ensures closes { closes self.new.slots.items ≤ closes self.old.slots.items + closes_by call.now Done }
+        ensures no_more { OnErr result (closes self.new.slots.items ≤ closes self.old.slots.items) }
     {
         match call {
             Call::OpenOld { slot, name } => self.open(who, *slot, name)?,
@@ -285,6 +288,7 @@ impl Tables {
         ensures err { OnErr result (disk_at self.new ≡ disk_at self.old) }
         ensures once { Once self.new.locks.items }
         ensures closes { closes self.new.slots.items ≤ closes self.old.slots.items + closes_by call.now reply.now }
+        ensures no_more { OnErr result (closes self.new.slots.items ≤ closes self.old.slots.items) }
     {
         match reply {
             Reply::Done => self.take_effect(alloc, who, call),
