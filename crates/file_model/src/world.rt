@@ -1,12 +1,12 @@
-ghost use Rattle.std.specs.Prelude.{◌≡◌, ◌≤◌, ◌<◌, ◌+◌, ◌-◌, ◌∷◌, [], ℕ, Bool, true, false, OnOk, OnErr, IfOk, IsOk, IsSome, is_some, if◌then◌else◌};
+ghost use Rattle.std.specs.Prelude.{◌≡◌, ◌≤◌, ◌<◌, ◌+◌, ◌-◌, ◌∷◌, [], ℕ, Bool, true, false, length, OnOk, OnErr, IfOk, IsOk, IsSome, is_some, if◌then◌else◌};
 ghost use Rattle.std.specs.Vec.{vec_len, vec_capacity};
 ghost use Rattle.cache_types.specs.Seats.{same_seat};
 ghost use Rattle.cache_types.specs.declared.seat.Who.{Who};
 ghost use Rattle.file_log.specs.declared.item.LogItem.TheVariants as items;
 ghost use Rattle.file_log.specs.Effect.{after_call};
-ghost use Rattle.file_log.specs.Exchange.{Answers, MayLack, byte_items, item_of_note};
+ghost use Rattle.file_log.specs.Exchange.{Answers, NoteMayLack, byte_items, item_of_note};
 ghost use Rattle.file_log.specs.Legal.{Legal, IsLegal, IsOpen};
-ghost use Rattle.file_log.specs.Seat.{Course, SlotFits, IsServed, course_of};
+ghost use Rattle.file_log.specs.Seat.{Course, IsFilled, SlotFits, IsServed, course_of};
 ghost use Rattle.file_log.specs.State.{state_of, disk_of};
 ghost use Rattle.file_model.specs.Calls.{MakesOne, IsNoFailure, filled_of};
 ghost use Rattle.file_model.specs.Find.{Once};
@@ -18,7 +18,7 @@ ghost use Rattle.file_model.specs.Tables.{disk_at};
 
 use crate::book::Book;
 use crate::find::{file_in, is_among};
-use crate::operations::{begin, end, hurt, operation_of};
+use crate::operations::{begin_in_room, end_in_room, fail_in_room, operation_of};
 use crate::parts::OpenOperation;
 use crate::piece::Run;
 use crate::tables::Tables;
@@ -165,5 +165,59 @@ impl World {
             reply: told,
         });
         Ok(reply)
+    }
+
+    /// Empties a slot and frees its lock. Takes no memory.
+    pub fn close(&mut self, who: Who, slot: u8)
+        requires slot { IsFilled (filled_of (disk_of self.old.past) who) slot }
+        requires alive { (state_of self.old.past).halted who.process ≡ false }
+        ensures told { self.new ≡ told self.old (items.Did who (Call.Close slot) Reply.Done ∷ []) }
+        ensures legal { IsLegal (state_of self.old.past) (items.Did who (Call.Close slot) Reply.Done) }
+    {
+        self.tables.close(who, slot);
+        self.book.put(LogItem::Did {
+            who,
+            call: Call::Close { slot },
+            reply: Reply::Done,
+        });
+    }
+
+    /// Writes one byte to the file of a slot. A refusal changes nothing.
+    pub fn write_byte(&mut self, who: Who, slot: u8, at: u64, value: u8) -> Result<(), NoMemory>
+        requires slot { IsFilled (filled_of (disk_of self.old.past) who) slot }
+        requires alive { (state_of self.old.past).halted who.process ≡ false }
+        ensures ok { OnOk result (self.new ≡ told self.old (items.Byte who slot at value ∷ [])) }
+        ensures legal { OnOk result (IsLegal (state_of self.old.past) (items.Byte who slot at value)) }
+        ensures err { OnErr result (self.new ≡ self.old) }
+    {
+        self.tables
+            .write_byte(&mut self.book, who, slot, at, value)?;
+        Ok(())
+    }
+
+    /// Writes bytes from a place on to the file of a slot. The log keeps them as they are, in their own
+    /// memory. A refusal changes nothing.
+    pub fn write_run(
+        &mut self,
+        who: Who,
+        slot: u8,
+        at: u64,
+        bytes: Bytes,
+    ) -> Result<(), NoMemory>
+        requires slot { IsFilled (filled_of (disk_of self.old.past) who) slot }
+        requires alive { (state_of self.old.past).halted who.process ≡ false }
+        ensures ok { OnOk result (self.new ≡ told self.old (byte_items who slot at bytes)) }
+        ensures legal { OnOk result (Legal (state_of self.old.past) (byte_items who slot at bytes)) }
+        ensures err { OnErr result (self.new ≡ self.old) }
+    {
+        bytes.known();
+        let run = Run {
+            who,
+            slot,
+            at,
+            bytes,
+        };
+        self.tables.write_run(&mut self.book, run)?;
+        Ok(())
     }
 }
