@@ -1,0 +1,11 @@
+pub mod Find
+pub mod Pieces
+pub mod Told
+pub mod Books
+pub mod Calls
+pub mod Room
+pub mod Tables
+pub mod Operations
+pub mod Held
+pub mod Following
+pub mod Worlds

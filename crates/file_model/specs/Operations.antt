@@ -1,0 +1,23 @@
+-- The open operation of a seat.
+use Rattle.std.specs.Prelude.{ℕ, Bool, true, false, not, List, Option, Some, None}
+use Rattle.cache_types.specs.declared.seat.Who.{Who}
+use Rattle.cache_types.specs.Seats.{same_seat}
+use Rattle.file_log.specs.Seat.{Course}
+use Rattle.file_model.specs.declared.parts.OpenOperation.{OpenOperation}
+use Rattle.file_model.specs.Find.{find_by}
+
+abbrev pub operation_of : List OpenOperation → Who → Option OpenOperation
+operation_of operations who = find_by (λ x. same_seat who x.who) (λ x. x) operations
+
+abbrev pub course_from : Option OpenOperation → Course
+course_from None = record { inside = false; hurt = false }
+course_from (Some operation) = record { inside = true; hurt = operation.hurt }
+
+-- whether a seat has an open operation, and whether it is hurt
+abbrev pub course_in : List OpenOperation → Who → Course
+course_in operations who = course_from (operation_of operations who)
+
+-- it is open and not hurt
+abbrev pub is_whole : Option OpenOperation → Bool
+is_whole None = false
+is_whole (Some operation) = not operation.hurt

@@ -1,0 +1,14 @@
+//! A world: files in memory, all that was done to them, and a clock. What was done is kept as a log of
+//! items, and the files are what that log leaves of the files that were there at first.
+#![tactic(auto)]
+
+mod book;
+mod file;
+mod find;
+mod operations;
+mod parts;
+mod piece;
+mod tables;
+mod world;
+
+pub use world::World;

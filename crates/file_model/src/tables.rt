@@ -1,0 +1,339 @@
+ghost use Rattle.std.specs.Prelude.{◌≡◌, ◌≤◌, ◌<◌, ◌+◌, ◌∷◌, ◌++◌, [], ℕ, None, Some, OnOk, OnErr, IfOk, IfSome, IsSome, take, drop, get_or, length, if◌then◌else◌};
+ghost use Rattle.cache_types.specs.declared.seat.Who.{Who};
+ghost use Rattle.file_log.specs.declared.call.Call.TheVariants.{OpenOld, OpenNew, TryLock, Cut, Close};
+ghost use Rattle.file_log.specs.declared.item.LogItem.TheVariants.{Byte};
+ghost use Rattle.file_log.specs.declared.reply.Reply.TheVariants.{Done, Held};
+ghost use Rattle.file_log.specs.Disk.{Disk, opening, bytes_in as the_bytes, rewritten, renamed};
+ghost use Rattle.file_log.specs.Effect.{after_call, done_call};
+ghost use Rattle.file_log.specs.Legal.{IsReply, is_slot_held};
+ghost use Rattle.file_log.specs.Seat.{IsServed};
+ghost use Rattle.file_log.specs.Writing.{written};
+ghost use Rattle.file_model.specs.Calls.{SlotsFit, MakesOne};
+ghost use Rattle.file_model.specs.Find.{Once};
+ghost use Rattle.file_model.specs.Pieces.{items_of_run};
+ghost use Rattle.file_model.specs.Room.{closes, closes_by};
+ghost use Rattle.file_model.specs.Told.{with_news};
+
+use crate::book::Book;
+use crate::file::File;
+use crate::find::{empty, file_in, forget, free, lock_of, number_of};
+use crate::parts::{NamedFile, OpenSlot, TakenLock};
+use crate::piece::Run;
+use cache_types::{Bytes, Name, NoMemory, Who};
+use file_log::{Call, Reply};
+use std::alloc::Global;
+
+/// The files of a disk with their names, and who has them open and locked.
+#[derive(Debug, Drop)]
+pub struct Tables {
+    pub names: Vec<NamedFile>,
+    pub files: Vec<File>,
+    pub slots: Vec<OpenSlot>,
+    pub locks: Vec<TakenLock>,
+}
+
+/// The bytes of the file with a number; none where there is no number.
+fn bytes_in(files: &[File], file: Option<usize>) -> &[u8]
+    ensures { IfSome file (λ f. result.now ≡ get_or files.now f []) }
+{
+    let Some(file) = file else {
+        return &[];
+    };
+    match files.get(file) {
+        None => &[],
+        Some(found) => found.as_slice(),
+    }
+}
+
+/// A copy of the bytes from a place on, so many of them or up to the end.
+fn read_at(alloc: Global, bytes: &[u8], at: u64, n: u64) -> Result<Bytes, NoMemory>
+    ensures { IfOk result (λ part. part ≡ take n (drop at bytes.now)) }
+{
+    let len = bytes.len() as u64;
+    let from = at.min(len);
+    let to = from + n.min(len - from);
+    Bytes::of(alloc, &bytes[from as usize..to as usize])
+}
+
+/// Gives a name an empty file, and a slot that file. It does both or neither.
+fn add_file(
+    alloc: Global,
+    names: &mut Vec<NamedFile>,
+    files: &mut Vec<File>,
+    slots: &mut Vec<OpenSlot>,
+    name: Name,
+    who: Who,
+    slot: u8,
+) -> Result<(), NoMemory>
+    ensures names { OnOk result (names.new.items ≡ record { name = name; file = length files.old.items } ∷ names.old.items) }
+    ensures files { OnOk result (files.new.items ≡ files.old.items ++ [] ∷ []) }
+    ensures slots { OnOk result (slots.new.items ≡ record { who = who; slot = slot; file = length files.old.items } ∷ slots.old.items) }
+    ensures err { OnErr result ((names.new.items ≡ names.old.items) × (files.new.items ≡ files.old.items) × (slots.new.items ≡ slots.old.items)) }
+{
+    let file = files.len();
+    files.reserve(1)?;
+    slots.reserve(1)?;
+    names.insert(0, NamedFile { name, file })?;
+    files.push(File::new(alloc))?;
+    slots.insert(0, OpenSlot { who, slot, file })?;
+    Ok(())
+}
+
+impl Tables {
+    ghost use Rattle.file_model.specs.Tables.{disk_at};
+
+    /// No files. Takes no memory.
+    pub fn new(alloc: Global) -> Tables
+        ensures disk { disk_at result ≡ opening [] }
+        ensures once { Once result.locks.items }
+        ensures closes { closes result.slots.items ≡ 0 }
+    {
+        Tables {
+            names: Vec::new(alloc),
+            files: Vec::new(alloc),
+            slots: Vec::new(alloc),
+            locks: Vec::new(alloc),
+        }
+    }
+
+    /// What a call that makes one item is answered.
+    pub fn reply_to(
+        &self,
+        alloc: Global,
+        clock: u64,
+        who: Who,
+        call: &Call,
+    ) -> Result<Reply, NoMemory>
+        requires slots { SlotsFit (disk_at self.now) who call.now }
+        requires one { MakesOne call.now }
+        requires served { IsServed call.now }
+        ensures { IfOk result (λ reply. IsReply (disk_at self.now) who call.now reply) }
+    {
+        match call {
+            Call::OpenOld { slot: _, name } => match number_of(&self.names, name) {
+                None => Ok(Reply::Missing),
+                Some(_) => Ok(Reply::Done),
+            },
+            Call::TryLock { slot } => Ok(self.try_lock(who, *slot)),
+            Call::Length { slot } => {
+                let file = file_in(&self.slots, who, *slot);
+                Ok(Reply::Number(bytes_in(&self.files, file).len() as u64))
+            }
+            Call::ReadAt { slot, at, n } => {
+                let file = file_in(&self.slots, who, *slot);
+                let part = read_at(alloc, bytes_in(&self.files, file), *at, *n)?;
+                Ok(Reply::Got(part))
+            }
+            Call::Now => Ok(Reply::Number(clock)),
+            _ => Ok(Reply::Done),
+        }
+    }
+
+    /// What a TryLock is answered.
+    fn try_lock(&self, who: Who, slot: u8) -> Reply
+        ensures { result ≡ (if is_slot_held (disk_at self.now) who slot then Held else Done) }
+    {
+        let Some(file) = file_in(&self.slots, who, slot) else {
+            return Reply::Done;
+        };
+        match lock_of(&self.locks, file) {
+            None => Reply::Done,
+            Some(taken) => {
+                if who.is(taken.who) {
+                    Reply::Done
+                } else {
+                    Reply::Held
+                }
+            }
+        }
+    }
+
+    /// The slot stands for the file that the name has.
+    fn open(&mut self, who: Who, slot: u8, name: &Name) -> Result<(), NoMemory>
+        ensures ok { OnOk result (disk_at self.new ≡ done_call (disk_at self.old) who (OpenOld slot name.now)) }
+        ensures err { OnErr result (disk_at self.new ≡ disk_at self.old) }
+        ensures locks { self.new.locks ≡ self.old.locks }
+        ensures closes { closes self.new.slots.items ≤ closes self.old.slots.items + 1 }
+        ensures no_more { OnErr result (closes self.new.slots.items ≤ closes self.old.slots.items) }
+    {
+        match number_of(&self.names, name) {
+            None => empty(&mut self.slots, who, slot),
+            Some(file) => self.slots.insert(0, OpenSlot { who, slot, file })?,
+        }
+        Ok(())
+    }
+
+    /// The same; a name without a file gets a new one.
+    fn create(&mut self, alloc: Global, who: Who, slot: u8, name: &Name) -> Result<(), NoMemory>
+        ensures ok { OnOk result (disk_at self.new ≡ done_call (disk_at self.old) who (OpenNew slot name.now)) }
+        ensures err { OnErr result (disk_at self.new ≡ disk_at self.old) }
+        ensures locks { self.new.locks ≡ self.old.locks }
+        ensures closes { closes self.new.slots.items ≤ closes self.old.slots.items + 1 }
+        ensures no_more { OnErr result (closes self.new.slots.items ≤ closes self.old.slots.items) }
+    {
+        match number_of(&self.names, name) {
+            Some(file) => {
+                self.slots.insert(0, OpenSlot { who, slot, file })?;
+                Ok(())
+            }
+            None => {
+                let held = name.copy()?;
+                add_file(
+                    alloc,
+                    &mut self.names,
+                    &mut self.files,
+                    &mut self.slots,
+                    held,
+                    who,
+                    slot,
+                )?;
+                Ok(())
+            }
+        }
+    }
+
+    /// Takes the lock of a slot's file, where nobody has it.
+    fn lock(&mut self, who: Who, slot: u8) -> Result<(), NoMemory>
+        requires { Once self.old.locks.items }
+        ensures ok { OnOk result (disk_at self.new ≡ done_call (disk_at self.old) who (TryLock slot)) }
+        ensures err { OnErr result (disk_at self.new ≡ disk_at self.old) }
+        ensures once { Once self.new.locks.items }
+        ensures slots { self.new.slots ≡ self.old.slots }
+    {
+        let Some(file) = file_in(&self.slots, who, slot) else {
+            return Ok(());
+        };
+        if lock_of(&self.locks, file).is_none() {
+            self.locks.insert(0, TakenLock { file, who, slot })?;
+        }
+        Ok(())
+    }
+
+    /// Cuts the file of a slot. Takes no memory.
+    fn cut(&mut self, who: Who, slot: u8, n: u64)
+        ensures disk { disk_at self.new ≡ done_call (disk_at self.old) who (Cut slot n) }
+        ensures locks { self.new.locks ≡ self.old.locks }
+        ensures slots { self.new.slots ≡ self.old.slots }
+    {
+        let Some(file) = file_in(&self.slots, who, slot) else {
+            return;
+        };
+        if file < self.files.len() {
+            self.files[file].cut(n);
+        }
+    }
+
+    /// The file of one name gets the other name in its place.
+    fn rename(&mut self, from: &Name, to: &Name) -> Result<(), NoMemory>
+        ensures ok { OnOk result (disk_at self.new ≡ renamed (disk_at self.old) ((disk_at self.old).names from.now) from.now to.now) }
+        ensures err { OnErr result (disk_at self.new ≡ disk_at self.old) }
+        ensures locks { self.new.locks ≡ self.old.locks }
+        ensures slots { self.new.slots ≡ self.old.slots }
+    {
+        let Some(file) = number_of(&self.names, from) else {
+            return Ok(());
+        };
+        let name = to.copy()?;
+        self.names.reserve(1)?;
+        forget(&mut self.names, to);
+        forget(&mut self.names, from);
+        self.names.insert(0, NamedFile { name, file })?;
+        Ok(())
+    }
+
+    /// Empties a slot and frees its lock. Takes no memory.
+    pub fn close(&mut self, who: Who, slot: u8)
+        requires { Once self.old.locks.items }
+        ensures disk { disk_at self.new ≡ done_call (disk_at self.old) who (Close slot) }
+        ensures once { Once self.new.locks.items }
+        ensures fewer { IsSome ((disk_at self.old).slots who slot) → closes self.new.slots.items + 1 ≤ closes self.old.slots.items }
+        ensures no_more { closes self.new.slots.items ≤ closes self.old.slots.items }
+    {
+        empty(&mut self.slots, who, slot);
+        free(&mut self.locks, who, slot);
+    }
+
+    /// What a call does that is answered Done.
+    fn take_effect(&mut self, alloc: Global, who: Who, call: &Call) -> Result<(), NoMemory>
+        requires { Once self.old.locks.items }
+        ensures ok { OnOk result (disk_at self.new ≡ done_call (disk_at self.old) who call.now) }
+        ensures err { OnErr result (disk_at self.new ≡ disk_at self.old) }
+        ensures once { Once self.new.locks.items }
+        ensures closes { closes self.new.slots.items ≤ closes self.old.slots.items + closes_by call.now Done }
+        ensures no_more { OnErr result (closes self.new.slots.items ≤ closes self.old.slots.items) }
+    {
+        match call {
+            Call::OpenOld { slot, name } => self.open(who, *slot, name)?,
+            Call::OpenNew { slot, name } => self.create(alloc, who, *slot, name)?,
+            Call::TryLock { slot } => self.lock(who, *slot)?,
+            Call::Cut { slot, n } => self.cut(who, *slot, *n),
+            Call::Rename { from, to } => self.rename(from, to)?,
+            Call::Remove { name } => forget(&mut self.names, name),
+            Call::Close { slot } => self.close(who, *slot),
+            _ => {}
+        }
+        Ok(())
+    }
+
+    /// What an answered call does.
+    pub fn answer(
+        &mut self,
+        alloc: Global,
+        who: Who,
+        call: &Call,
+        reply: &Reply,
+    ) -> Result<(), NoMemory>
+        requires { Once self.old.locks.items }
+        ensures ok { OnOk result (disk_at self.new ≡ after_call (disk_at self.old) who call.now reply.now) }
+        ensures err { OnErr result (disk_at self.new ≡ disk_at self.old) }
+        ensures once { Once self.new.locks.items }
+        ensures closes { closes self.new.slots.items ≤ closes self.old.slots.items + closes_by call.now reply.now }
+        ensures no_more { OnErr result (closes self.new.slots.items ≤ closes self.old.slots.items) }
+    {
+        match reply {
+            Reply::Done => self.take_effect(alloc, who, call),
+            _ => Ok(()),
+        }
+    }
+
+    /// Writes one byte to the file of a slot, and tells it. It does both or neither.
+    pub fn write_byte(
+        &mut self,
+        book: &mut Book,
+        who: Who,
+        slot: u8,
+        at: u64,
+        value: u8,
+    ) -> Result<(), NoMemory>
+        ensures ok { OnOk result (disk_at self.new ≡ rewritten (disk_at self.old) ((disk_at self.old).slots who slot) (written at (value ∷ []))) }
+        ensures told { OnOk result (book.new ≡ with_news book.old (Byte who slot at value ∷ [])) }
+        ensures err { OnErr result ((disk_at self.new ≡ disk_at self.old) × (book.new ≡ book.old)) }
+        ensures locks { self.new.locks ≡ self.old.locks }
+        ensures slots { self.new.slots ≡ self.old.slots }
+    {
+        let Some(file) = file_in(&self.slots, who, slot) else {
+            return Err(NoMemory);
+        };
+        if file >= self.files.len() {
+            return Err(NoMemory);
+        }
+        self.files[file].put_byte(book, who, slot, at, value)
+    }
+
+    /// Writes a run to the file of a slot, and tells it. It does both or neither.
+    pub fn write_run(&mut self, book: &mut Book, run: Run) -> Result<(), NoMemory>
+        ensures ok { OnOk result (disk_at self.new ≡ rewritten (disk_at self.old) ((disk_at self.old).slots run.who run.slot) (written run.at run.bytes)) }
+        ensures told { OnOk result (book.new ≡ with_news book.old (items_of_run run)) }
+        ensures err { OnErr result ((disk_at self.new ≡ disk_at self.old) × (book.new ≡ book.old)) }
+        ensures locks { self.new.locks ≡ self.old.locks }
+        ensures slots { self.new.slots ≡ self.old.slots }
+    {
+        let Some(file) = file_in(&self.slots, run.who, run.slot) else {
+            return Err(NoMemory);
+        };
+        if file >= self.files.len() {
+            return Err(NoMemory);
+        }
+        self.files[file].put_run(book, run)
+    }
+}

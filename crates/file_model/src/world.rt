@@ -1,0 +1,223 @@
+ghost use Rattle.std.specs.Prelude.{◌≡◌, ◌≤◌, ◌<◌, ◌+◌, ◌-◌, ◌∷◌, [], ℕ, Bool, true, false, length, OnOk, OnErr, IfOk, IsOk, IsSome, is_some, if◌then◌else◌};
+ghost use Rattle.std.specs.Vec.{vec_len, vec_capacity};
+ghost use Rattle.cache_types.specs.Seats.{same_seat};
+ghost use Rattle.cache_types.specs.declared.seat.Who.{Who};
+ghost use Rattle.file_log.specs.declared.item.LogItem.TheVariants as items;
+ghost use Rattle.file_log.specs.Effect.{after_call};
+ghost use Rattle.file_log.specs.Exchange.{Answers, NoteMayLack, byte_items, item_of_note};
+ghost use Rattle.file_log.specs.Legal.{Legal, IsLegal, IsOpen};
+ghost use Rattle.file_log.specs.Seat.{Course, IsFilled, SlotFits, IsServed, course_of};
+ghost use Rattle.file_log.specs.State.{state_of, disk_of};
+ghost use Rattle.file_model.specs.Calls.{MakesOne, IsNoFailure, filled_of};
+ghost use Rattle.file_model.specs.Find.{Once};
+ghost use Rattle.file_model.specs.Held.{told, IsPlain};
+ghost use Rattle.file_model.specs.Operations.{course_in};
+ghost use Rattle.file_model.specs.Room.{closes, closes_by as the_closes, ends};
+
+ghost use Rattle.file_model.specs.Tables.{disk_at};
+
+use crate::book::Book;
+use crate::find::{file_in, is_among};
+use crate::operations::{begin_in_room, end_in_room, fail_in_room, operation_of};
+use crate::parts::OpenOperation;
+use crate::piece::Run;
+use crate::tables::Tables;
+use cache_types::{Answer, Bytes, Driver, Key, Name, NoMemory, Request, Store, Who};
+use file_log::{Call, LogItem, Note, Reply, request_known};
+use std::alloc::Global;
+use std::marker::Model;
+
+/// Files in memory, all that was done to them, and a clock. Contracts see the files that were there at
+/// first, the log, and the clock. A world keeps memory for what can't be refused: a Close of each filled
+/// slot, and of each open operation its End and its first failure.
+#[derive(Debug, Drop)]
+pub struct World {
+    alloc: Global,
+    start: Vec<(Name, Bytes)>,
+    book: Book,
+    tables: Tables,
+    halted: Vec<u32>,
+    operations: Vec<OpenOperation>,
+    clock: u64,
+}
+
+impl Model for World {
+    ghost use Rattle.file_model.specs.Held.{Held};
+
+    ghost Value = { Held };
+
+    ghost use Rattle.file_model.specs.Worlds.{view_of, AreKept};
+
+    ghost view = { view_of };
+
+    ghost invariant = { AreKept };
+}
+
+/// Does what an answered call does, and takes the memory for its item and for the Close of what it
+/// opened. It does both or neither.
+fn answer_in_room(
+    book: &mut Book,
+    tables: &mut Tables,
+    alloc: Global,
+    who: Who,
+    call: &Call,
+    reply: &Reply,
+) -> Result<(), NoMemory>
+    requires { Once tables.old.locks.items }
+    ensures ok { OnOk result (disk_at tables.new ≡ after_call (disk_at tables.old) who call.now reply.now) }
+    ensures room { OnOk result (book.new ≡ record book.old { room = book.old.room + (1 + the_closes call.now reply.now) }) }
+    ensures err { OnErr result ((disk_at tables.new ≡ disk_at tables.old) × (book.new ≡ book.old)) }
+    ensures once { Once tables.new.locks.items }
+    ensures closes { closes tables.new.slots.items ≤ closes tables.old.slots.items + the_closes call.now reply.now }
+    ensures no_more { OnErr result (closes tables.new.slots.items ≤ closes tables.old.slots.items) }
+{
+    let more = 1 + closes_by(call, reply);
+    book.make_room(more)?;
+    match tables.answer(alloc, who, call, reply) {
+        Ok(()) => Ok(()),
+        Err(e) => {
+            book.give_room(more);
+            Err(e)
+        }
+    }
+}
+
+/// How many Closes an answered call has to come.
+fn closes_by(call: &Call, reply: &Reply) -> usize
+    ensures { result ≡ the_closes call.now reply.now }
+{
+    match (call, reply) {
+        (Call::OpenOld { slot: _, name: _ }, Reply::Done) => 1,
+        (Call::OpenNew { slot: _, name: _ }, Reply::Done) => 1,
+        _ => 0,
+    }
+}
+
+impl World {
+    /// No files, nothing done, and the clock at 0. Takes no memory.
+    pub fn new(alloc: Global) -> World
+        ensures { result ≡ record { past = record { start = []; log = [] }; clock = 0 } }
+    {
+        World {
+            alloc,
+            start: Vec::new(alloc),
+            book: Book::new(alloc),
+            tables: Tables::new(alloc),
+            halted: Vec::new(alloc),
+            operations: Vec::new(alloc),
+            clock: 0,
+        }
+    }
+
+    /// Sets the clock. Takes no memory.
+    pub fn set_clock(&mut self, now: u64)
+        ensures { self.new ≡ record self.old { clock = now } }
+    {
+        self.clock = now;
+    }
+
+    /// The clock's number.
+    pub fn now(&self) -> u64
+        ensures { result ≡ self.now.clock }
+    {
+        self.clock
+    }
+
+    /// Whether a slot of a seat is filled.
+    pub fn is_open(&self, who: Who, slot: u8) -> bool
+        ensures { result ≡ is_some ((disk_of self.now.past).slots who slot) }
+    {
+        file_in(&self.tables.slots, who, slot).is_some()
+    }
+
+    /// Whether a process was stopped.
+    pub fn is_halted(&self, process: u32) -> bool
+        ensures { result ≡ (state_of self.now.past).halted process }
+    {
+        is_among(&self.halted, process)
+    }
+
+    /// Makes a call that makes one item, and tells it with its reply. A refusal changes nothing.
+    pub fn did(&mut self, who: Who, call: Call) -> Result<Reply, NoMemory>
+        requires slots { SlotFits (filled_of (disk_of self.old.past) who) call }
+        requires one { MakesOne call }
+        requires served { IsServed call }
+        requires alive { (state_of self.old.past).halted who.process ≡ false }
+        ensures ok { IfOk result (λ reply. self.new ≡ told self.old (items.Did who call reply ∷ [])) }
+        ensures legal { IfOk result (λ reply. IsLegal (state_of self.old.past) (items.Did who call reply)) }
+        ensures fits { IfOk result (λ reply. (inside : Bool) → Answers inside call reply × IsNoFailure reply) }
+        ensures err { OnErr result (self.new ≡ self.old) }
+    {
+        call.known();
+        let reply = self.tables.reply_to(self.alloc, self.clock, who, &call)?;
+        let told = reply.copy()?;
+        answer_in_room(
+            &mut self.book,
+            &mut self.tables,
+            self.alloc,
+            who,
+            &call,
+            &told,
+        )?;
+        self.book.put(LogItem::Did {
+            who,
+            call,
+            reply: told,
+        });
+        Ok(reply)
+    }
+
+    /// Empties a slot and frees its lock. Takes no memory.
+    pub fn close(&mut self, who: Who, slot: u8)
+        requires slot { IsFilled (filled_of (disk_of self.old.past) who) slot }
+        requires alive { (state_of self.old.past).halted who.process ≡ false }
+        ensures told { self.new ≡ told self.old (items.Did who (Call.Close slot) Reply.Done ∷ []) }
+        ensures legal { IsLegal (state_of self.old.past) (items.Did who (Call.Close slot) Reply.Done) }
+    {
+        self.tables.close(who, slot);
+        self.book.put(LogItem::Did {
+            who,
+            call: Call::Close { slot },
+            reply: Reply::Done,
+        });
+    }
+
+    /// Writes one byte to the file of a slot. A refusal changes nothing.
+    pub fn write_byte(&mut self, who: Who, slot: u8, at: u64, value: u8) -> Result<(), NoMemory>
+        requires slot { IsFilled (filled_of (disk_of self.old.past) who) slot }
+        requires alive { (state_of self.old.past).halted who.process ≡ false }
+        ensures ok { OnOk result (self.new ≡ told self.old (items.Byte who slot at value ∷ [])) }
+        ensures legal { OnOk result (IsLegal (state_of self.old.past) (items.Byte who slot at value)) }
+        ensures err { OnErr result (self.new ≡ self.old) }
+    {
+        self.tables
+            .write_byte(&mut self.book, who, slot, at, value)?;
+        Ok(())
+    }
+
+    /// Writes bytes from a place on to the file of a slot. The log keeps them as they are, in their own
+    /// memory. A refusal changes nothing.
+    pub fn write_run(
+        &mut self,
+        who: Who,
+        slot: u8,
+        at: u64,
+        bytes: Bytes,
+    ) -> Result<(), NoMemory>
+        requires slot { IsFilled (filled_of (disk_of self.old.past) who) slot }
+        requires alive { (state_of self.old.past).halted who.process ≡ false }
+        ensures ok { OnOk result (self.new ≡ told self.old (byte_items who slot at bytes)) }
+        ensures legal { OnOk result (Legal (state_of self.old.past) (byte_items who slot at bytes)) }
+        ensures err { OnErr result (self.new ≡ self.old) }
+    {
+        bytes.known();
+        let run = Run {
+            who,
+            slot,
+            at,
+            bytes,
+        };
+        self.tables.write_run(&mut self.book, run)?;
+        Ok(())
+    }
+}
