@@ -13,7 +13,6 @@ ghost use Rattle.file_model.specs.Find.{Once};
 ghost use Rattle.file_model.specs.Held.{told, IsPlain};
 ghost use Rattle.file_model.specs.Operations.{course_in};
 ghost use Rattle.file_model.specs.Room.{closes, closes_by as the_closes, ends};
-
 ghost use Rattle.file_model.specs.Seeing.{seen_by};
 ghost use Rattle.file_model.specs.Starts.{NamesDiffer};
 ghost use Rattle.file_model.specs.Tables.{disk_at};
@@ -217,13 +216,7 @@ impl World {
 
     /// Writes bytes from a place on to the file of a slot. The log keeps them as they are, in their own
     /// memory. A refusal changes nothing.
-    pub fn write_run(
-        &mut self,
-        who: Who,
-        slot: u8,
-        at: u64,
-        bytes: Bytes,
-    ) -> Result<(), NoMemory>
+    pub fn write_run(&mut self, who: Who, slot: u8, at: u64, bytes: Bytes) -> Result<(), NoMemory>
         requires slot { IsFilled (filled_of (disk_of self.old.past) who) slot }
         requires alive { (state_of self.old.past).halted who.process ≡ false }
         ensures ok { OnOk result (self.new ≡ told self.old (byte_items who slot at bytes)) }
