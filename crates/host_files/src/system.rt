@@ -3,14 +3,12 @@ ghost use Rattle.std.specs.Prelude.{◌≤◌, length, IfOk};
 use crate::fault::Fault;
 use cache_types::{Bytes, MAX_ITEM};
 use std::alloc::Global;
-use std::fs;
 use std::fs::{File, OpenOptions, TryLockError};
-use std::io;
 use std::io::ErrorKind;
 use std::os::unix::fs::FileExt;
 use std::rt::{Clock, Files as RealFiles};
-use std::thread;
 use std::time::Duration;
+use std::{fs, io, thread};
 
 /// The system's places in a file are below this.
 const PAST_ALL: u64 = 1 << 63;
