@@ -1,5 +1,5 @@
-ghost use Rattle.std.specs.Prelude.{◌≡◌, ◌+◌, ◌-◌, ◌^◌, min};
-ghost use Rattle.memory_files.specs.Failing.{is_due};
+ghost use Rattle.std.specs.Prelude.{◌≡◌};
+ghost use Rattle.memory_files.specs.Failing.{is_due, counted};
 
 /// The numbers of the calls that are to fail, counted from 0, and how many calls there were.
 #[derive(Debug, Drop)]
@@ -19,7 +19,7 @@ impl Failing {
     /// Counts a call, and says whether it is to fail.
     pub fn next(&mut self) -> bool
         ensures due { result ≡ is_due self.old }
-        ensures counted { self.new ≡ record self.old { calls = min (self.old.calls + 1) (2 ^ 64 - 1) } }
+        ensures counted { self.new ≡ counted self.old }
     {
         let number = self.calls;
         self.calls = number.saturating_add(1);
