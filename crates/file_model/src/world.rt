@@ -220,4 +220,78 @@ impl World {
         self.tables.write_run(&mut self.book, run)?;
         Ok(())
     }
+
+    /// Tells that a call of a seat failed, or with `memory` that it was refused memory. The first failure
+    /// of an open operation takes no memory. A refusal changes nothing.
+    pub fn fail(&mut self, who: Who, memory: bool) -> Result<(), NoMemory>
+        requires { (state_of self.old.past).halted who.process ≡ false }
+        ensures ok { OnOk result (self.new ≡ told self.old (items.Failed who memory ∷ [])) }
+        ensures legal { IsLegal (state_of self.old.past) (items.Failed who memory) }
+        ensures err { OnErr result (self.new ≡ self.old) }
+        ensures kept { course_of who self.old.past.log ≡ record { inside = true; hurt = false } → IsOk result }
+    {
+        fail_in_room(&mut self.book, &mut self.operations, who)?;
+        self.book.put(LogItem::Failed { who, memory });
+        Ok(())
+    }
+
+    /// Tells a note of a seat. The End of an open operation takes no memory. A refusal changes nothing.
+    pub fn tell(&mut self, who: Who, note: Note) -> Result<(), NoMemory>
+        requires { (state_of self.old.past).halted who.process ≡ false }
+        ensures ok { OnOk result (self.new ≡ told self.old (item_of_note who note ∷ [])) }
+        ensures legal { IsLegal (state_of self.old.past) (item_of_note who note) }
+        ensures err { OnErr result (self.new ≡ self.old) }
+        ensures kept { OnErr result (NoteMayLack (course_of who self.old.past.log).inside note) }
+    {
+        match note {
+            Note::Begin(request) => self.begin(who, request),
+            Note::Evict { store, driver, key } => self.evict(who, store, driver, key),
+            Note::End(answer) => self.end(who, answer),
+        }
+    }
+
+    /// Tells that an operation begins.
+    fn begin(&mut self, who: Who, request: Request) -> Result<(), NoMemory>
+        requires { (state_of self.old.past).halted who.process ≡ false }
+        ensures ok { OnOk result (self.new ≡ told self.old (items.Begin who request ∷ [])) }
+        ensures legal { IsLegal (state_of self.old.past) (items.Begin who request) }
+        ensures err { OnErr result (self.new ≡ self.old) }
+    {
+        request_known(&request);
+        begin_in_room(&mut self.book, &mut self.operations, who)?;
+        self.book.put(LogItem::Begin { who, request });
+        Ok(())
+    }
+
+    /// Tells that an entry is about to go.
+    fn evict(&mut self, who: Who, store: Store, driver: Driver, key: Key) -> Result<(), NoMemory>
+        requires { (state_of self.old.past).halted who.process ≡ false }
+        ensures ok { OnOk result (self.new ≡ told self.old (items.Evict who store driver key ∷ [])) }
+        ensures legal { IsLegal (state_of self.old.past) (items.Evict who store driver key) }
+        ensures err { OnErr result (self.new ≡ self.old) }
+    {
+        driver.known();
+        key.known();
+        self.book.make_room(1)?;
+        self.book.put(LogItem::Evict {
+            who,
+            store,
+            driver,
+            key,
+        });
+        Ok(())
+    }
+
+    /// Tells that an operation ends. Takes no memory where one is open.
+    fn end(&mut self, who: Who, answer: Answer) -> Result<(), NoMemory>
+        requires { (state_of self.old.past).halted who.process ≡ false }
+        ensures ok { OnOk result (self.new ≡ told self.old (items.End who answer ∷ [])) }
+        ensures legal { IsLegal (state_of self.old.past) (items.End who answer) }
+        ensures err { OnErr result (self.new ≡ self.old) }
+        ensures kept { (course_of who self.old.past.log).inside ≡ true → IsOk result }
+    {
+        end_in_room(&mut self.book, &mut self.operations, who)?;
+        self.book.put(LogItem::End { who, answer });
+        Ok(())
+    }
 }

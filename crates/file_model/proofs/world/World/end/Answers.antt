@@ -1,0 +1,39 @@
+use Rattle.std.proofs.Common.{◌≡◌, ◌∙◌, ◌++◌, ◌∷◌, [], ◌+◌, ◌-◌, ◌≤◌, ◌<◌, List, ℕ, Bool, true, false, ap, sym, refl, subst, arith, rules}
+use Rattle.std.specs.Prelude.{IsSome}
+use Rattle.cache_types.specs.declared.seat.Who.{Who}
+use Rattle.cache_types.specs.Seats.{same_seat}
+use Rattle.file_log.specs.declared.call.Call.TheVariants.{Close}
+use Rattle.file_log.specs.declared.reply.Reply.TheVariants.{Done}
+use Rattle.file_log.specs.declared.item.LogItem.{LogItem}
+use Rattle.file_log.specs.declared.item.LogItem.TheVariants.{Did, Byte, Failed, Begin, End, Evict}
+use Rattle.file_log.specs.Disk.{Disk}
+use Rattle.file_log.specs.Exchange.{byte_items}
+use Rattle.file_log.specs.Legal.{IsLegal, IsOpen, Legal}
+use Rattle.file_log.specs.Seat.{IsFilled}
+use Rattle.file_log.specs.State.{state_of, disk_of}
+use Rattle.file_model.specs.Calls.{filled_of}
+use Rattle.file_model.specs.Find.{is_among}
+use Rattle.file_model.specs.Held.{Held}
+use Rattle.file_model.specs.Operations.{course_in}
+use Rattle.file_model.specs.Room.{closes, ends}
+use Rattle.file_model.specs.Tables.{disk_at}
+use Rattle.file_model.specs.Told.{Told}
+use Rattle.file_model.specs.Worlds.{past_of}
+use Rattle.file_model.proofs.Following.{follows_on, follows_still, either, run_after, run_stops_none, run_courses, run_legal}
+use Rattle.file_model.proofs.world.World.end.Goals as goal
+
+pub invariant_of-self-2 : goal.invariant_of-self-2
+invariant_of-self-2 c =
+    let old = c.self.inside in
+    let who = c.args.who in
+    let item = End who c.args.answer in
+    let new = c.end_in_room.new in
+    let left : c.put.new.self.room ≡ new.book.room - 1 = ap (λ (t : Told). t.room) c.put.ensures in
+    let book : c.put.new.self.items ≡ old.book.items ++ item ∷ [] = ap (λ (t : Told). t.items) c.put.ensures ∙ ap (λ (log : List LogItem). log ++ item ∷ []) c.in_ok-end_in_room.ensures.items in
+    let alive : (state_of (past_of old)).halted who.process ≡ false = subst (λ (h : Held). (state_of h.past).halted who.process ≡ false) (sym c.self.view_is) c.requires in
+    record {
+      follows = follows_on (past_of old) (disk_at old.tables) (disk_at old.tables) (is_among old.halted.items) (course_in old.operations.items) (course_in new.operations.items) (item ∷ []) c.put.new.self.items
+        c.self.invariant.follows book ((alive, tt), tt) refl (λ halted process. refl) c.in_ok-end_in_room.ensures.courses;
+      once = c.self.invariant.once;
+      room = omega (arith, c.self.invariant.room, left, c.in_ok-end_in_room.ensures.room);
+    }
