@@ -1,2 +1,4 @@
 pub mod Failing
 pub mod Streams
+pub mod Seats
+pub mod Failures
