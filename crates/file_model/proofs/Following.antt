@@ -112,8 +112,7 @@ run_legal s who slot at [] alive open' fits = tt
 run_legal s who slot at (value ∷ values) alive open' fits =
     let o = s.disk.slots who slot in
     let one : List ℕ → List ℕ = written at (value ∷ []) in
-    let later : IsSome ((rewritten s.disk o one).slots who slot) = subst (λ (slots : Who → ℕ → Option ℕ). IsSome (slots who slot)) (sym (rewritten_slots s.disk o one)) open'.filled in
-    (
+    let later : IsSome ((rewritten s.disk o one).slots who slot) = subst (λ (slots : Who → ℕ → Option ℕ). IsSome (slots who slot)) (sym (rewritten_slots s.disk o one)) open'.filled in (
       (alive, record { is_open = open'; byte = fits.0 }),
       run_legal (after s (Byte who slot at value)) who slot (at + 1) values alive (record { small = open'.small; filled = later }) fits.1,
     )

@@ -8,4 +8,6 @@ pub mod Tables
 pub mod Operations
 pub mod Held
 pub mod Following
+pub mod Starts
 pub mod Worlds
+pub mod Seeing

@@ -8,7 +8,9 @@ mod find;
 mod operations;
 mod parts;
 mod piece;
+mod seen;
 mod tables;
 mod world;
 
+pub use seen::Seen;
 pub use world::World;

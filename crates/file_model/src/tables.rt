@@ -1,4 +1,4 @@
-ghost use Rattle.std.specs.Prelude.{◌≡◌, ◌≤◌, ◌<◌, ◌+◌, ◌∷◌, ◌++◌, [], ℕ, None, Some, OnOk, OnErr, IfOk, IfSome, IsSome, take, drop, get_or, length, if◌then◌else◌};
+ghost use Rattle.std.specs.Prelude.{◌≡◌, ◌≤◌, ◌<◌, ◌+◌, ◌∷◌, ◌++◌, [], ℕ, None, Some, OnOk, OnErr, IfOk, IfSome, IsSome, take, drop, get_or, length, map, if◌then◌else◌};
 ghost use Rattle.cache_types.specs.declared.seat.Who.{Who};
 ghost use Rattle.file_log.specs.declared.call.Call.TheVariants.{OpenOld, OpenNew, TryLock, Cut, Close};
 ghost use Rattle.file_log.specs.declared.item.LogItem.TheVariants.{Byte};
@@ -12,6 +12,7 @@ ghost use Rattle.file_model.specs.Calls.{SlotsFit, MakesOne};
 ghost use Rattle.file_model.specs.Find.{Once};
 ghost use Rattle.file_model.specs.Pieces.{items_of_run};
 ghost use Rattle.file_model.specs.Room.{closes, closes_by};
+ghost use Rattle.file_model.specs.Starts.{named_from};
 ghost use Rattle.file_model.specs.Told.{with_news};
 
 use crate::book::Book;
@@ -79,6 +80,31 @@ fn add_file(
     Ok(())
 }
 
+/// Names with the numbers of their files, which are numbered in their order.
+fn names_of(alloc: Global, start: &[(Name, Bytes)]) -> Result<Vec<NamedFile>, NoMemory>
+    ensures { IfOk result (λ names. names.items ≡ named_from 0 start.now) }
+{
+    let mut names = Vec::new(alloc);
+    let mut file = 0;
+    for pair in start {
+        let name = pair.0.copy()?;
+        names.push(NamedFile { name, file })?;
+        file += 1;
+    }
+    Ok(names)
+}
+
+/// Files with copies of these bytes.
+fn files_of(alloc: Global, start: &[(Name, Bytes)]) -> Result<Vec<File>, NoMemory>
+    ensures { IfOk result (λ files. files.items ≡ map (λ pair. pair.1) start.now) }
+{
+    let mut files = Vec::new(alloc);
+    for pair in start {
+        files.push(File::of(alloc, pair.1.as_slice())?)?;
+    }
+    Ok(files)
+}
+
 impl Tables {
     ghost use Rattle.file_model.specs.Tables.{disk_at};
 
@@ -94,6 +120,20 @@ impl Tables {
             slots: Vec::new(alloc),
             locks: Vec::new(alloc),
         }
+    }
+
+    /// These files, each with a copy of its bytes.
+    pub fn of(alloc: Global, start: &[(Name, Bytes)]) -> Result<Tables, NoMemory>
+        ensures disk { IfOk result (λ tables. disk_at tables ≡ opening start.now) }
+        ensures once { IfOk result (λ tables. Once tables.locks.items) }
+        ensures closes { IfOk result (λ tables. closes tables.slots.items ≡ 0) }
+    {
+        Ok(Tables {
+            names: names_of(alloc, start)?,
+            files: files_of(alloc, start)?,
+            slots: Vec::new(alloc),
+            locks: Vec::new(alloc),
+        })
     }
 
     /// What a call that makes one item is answered.

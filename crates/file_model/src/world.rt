@@ -1,4 +1,4 @@
-ghost use Rattle.std.specs.Prelude.{◌≡◌, ◌≤◌, ◌<◌, ◌+◌, ◌-◌, ◌∷◌, [], ℕ, Bool, true, false, length, OnOk, OnErr, IfOk, IsOk, IsSome, is_some, if◌then◌else◌};
+ghost use Rattle.std.specs.Prelude.{◌≡◌, ◌≤◌, ◌<◌, ◌+◌, ◌-◌, ◌∷◌, [], ℕ, Bool, true, false, get_or, OnOk, OnErr, IfOk, IsOk, IsSome, is_some, if◌then◌else◌};
 ghost use Rattle.std.specs.Vec.{vec_len, vec_capacity};
 ghost use Rattle.cache_types.specs.Seats.{same_seat};
 ghost use Rattle.cache_types.specs.declared.seat.Who.{Who};
@@ -6,14 +6,15 @@ ghost use Rattle.file_log.specs.declared.item.LogItem.TheVariants as items;
 ghost use Rattle.file_log.specs.Effect.{after_call};
 ghost use Rattle.file_log.specs.Exchange.{Answers, NoteMayLack, byte_items, item_of_note};
 ghost use Rattle.file_log.specs.Legal.{Legal, IsLegal, IsOpen};
-ghost use Rattle.file_log.specs.Seat.{Course, IsFilled, SlotFits, IsServed, course_of};
+ghost use Rattle.file_log.specs.Seat.{Course, IsFilled, SlotFits, IsServed, IsTold, course_of};
 ghost use Rattle.file_log.specs.State.{state_of, disk_of};
 ghost use Rattle.file_model.specs.Calls.{MakesOne, IsNoFailure, filled_of};
 ghost use Rattle.file_model.specs.Find.{Once};
 ghost use Rattle.file_model.specs.Held.{told, IsPlain};
 ghost use Rattle.file_model.specs.Operations.{course_in};
 ghost use Rattle.file_model.specs.Room.{closes, closes_by as the_closes, ends};
-
+ghost use Rattle.file_model.specs.Seeing.{seen_by};
+ghost use Rattle.file_model.specs.Starts.{NamesDiffer};
 ghost use Rattle.file_model.specs.Tables.{disk_at};
 
 use crate::book::Book;
@@ -21,6 +22,7 @@ use crate::find::{file_in, is_among};
 use crate::operations::{begin_in_room, end_in_room, fail_in_room, operation_of};
 use crate::parts::OpenOperation;
 use crate::piece::Run;
+use crate::seen::Seen;
 use crate::tables::Tables;
 use cache_types::{Answer, Bytes, Driver, Key, Name, NoMemory, Request, Store, Who};
 use file_log::{Call, LogItem, Note, Reply, request_known};
@@ -107,6 +109,23 @@ impl World {
             operations: Vec::new(alloc),
             clock: 0,
         }
+    }
+
+    /// These files at the start, nothing done, and the clock at 0.
+    pub fn on_disk(alloc: Global, files: Vec<(Name, Bytes)>) -> Result<World, NoMemory>
+        requires { NamesDiffer files.items }
+        ensures { IfOk result (λ world. world ≡ record { past = record { start = files.items; log = [] }; clock = 0 }) }
+    {
+        let tables = Tables::of(alloc, &files)?;
+        Ok(World {
+            alloc,
+            start: files,
+            book: Book::new(alloc),
+            tables,
+            halted: Vec::new(alloc),
+            operations: Vec::new(alloc),
+            clock: 0,
+        })
     }
 
     /// Sets the clock. Takes no memory.
@@ -197,13 +216,7 @@ impl World {
 
     /// Writes bytes from a place on to the file of a slot. The log keeps them as they are, in their own
     /// memory. A refusal changes nothing.
-    pub fn write_run(
-        &mut self,
-        who: Who,
-        slot: u8,
-        at: u64,
-        bytes: Bytes,
-    ) -> Result<(), NoMemory>
+    pub fn write_run(&mut self, who: Who, slot: u8, at: u64, bytes: Bytes) -> Result<(), NoMemory>
         requires slot { IsFilled (filled_of (disk_of self.old.past) who) slot }
         requires alive { (state_of self.old.past).halted who.process ≡ false }
         ensures ok { OnOk result (self.new ≡ told self.old (byte_items who slot at bytes)) }
@@ -293,5 +306,35 @@ impl World {
         end_in_room(&mut self.book, &mut self.operations, who)?;
         self.book.put(LogItem::End { who, answer });
         Ok(())
+    }
+
+    /// What the log says of a seat. Takes no memory.
+    pub fn seen(&self, who: Who) -> Seen
+        ensures { IsTold who (seen_by result) self.now.past }
+    {
+        let filled = self.filled(who);
+        match operation_of(&self.operations, who) {
+            None => Seen {
+                filled,
+                inside: false,
+                hurt: false,
+            },
+            Some(operation) => Seen {
+                filled,
+                inside: true,
+                hurt: operation.hurt,
+            },
+        }
+    }
+
+    /// Which slots of a seat are filled.
+    fn filled(&self, who: Who) -> [bool; 8]
+        ensures { (at : ℕ) → at < 8 → get_or result at false ≡ is_some ((disk_of self.now.past).slots who at) }
+    {
+        let mut filled = [false; 8];
+        for slot in 0..8u8 {
+            filled[slot as usize] = self.is_open(who, slot);
+        }
+        filled
     }
 }

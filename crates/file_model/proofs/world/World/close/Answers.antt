@@ -37,7 +37,7 @@ invariant_of-self c =
     let is_open : IsOpen (disk_of (past_of old)) who slot = record { small = can.0; filled = can.1 } in
     record {
       follows = follows_on (past_of old) (disk_at old.tables) (disk_at c.close.new.self) (is_among old.halted.items) (course_in old.operations.items) (course_in old.operations.items) (item ∷ []) c.put.new.self.items
-        c.self.invariant.follows book ((alive, (is_open, tt)), tt) c.close.ensures.disk (λ halted process. refl) (λ w. sym (either (same_seat w who) (course_in old.operations.items w)));
+          c.self.invariant.follows book ((alive, (is_open, tt)), tt) c.close.ensures.disk (λ halted process. refl) (λ w. sym (either (same_seat w who) (course_in old.operations.items w)));
       once = c.close.ensures.once;
       room = omega (arith, c.self.invariant.room, left, fewer);
     }

@@ -26,7 +26,7 @@ invariant_of-self c =
     let room : c.answer_in_room.new.book.room ≡ old.book.room = ap (λ (t : Told). t.room) same.1 in
     record {
       follows = follows_still (past_of old) (disk_at old.tables) (disk_at c.answer_in_room.new.tables) (is_among old.halted.items) (course_in old.operations.items) (course_in old.operations.items) c.answer_in_room.new.book.items
-        c.self.invariant.follows items same.0 (λ w. refl);
+          c.self.invariant.follows items same.0 (λ w. refl);
       once = c.in_err-answer_in_room.ensures.once;
       room = omega (arith, c.self.invariant.room, room, c.in_err-answer_in_room.ensures.no_more);
     }
@@ -50,7 +50,7 @@ invariant_of-self-2 c =
     let legal : IsLegal (state_of (past_of old)) item = (alive, (is_reply, c.known.ensures)) in
     record {
       follows = follows_on (past_of old) (disk_at old.tables) (disk_at c.answer_in_room.new.tables) (is_among old.halted.items) (course_in old.operations.items) (course_in old.operations.items) (item ∷ []) c.put.new.self.items
-        c.self.invariant.follows book (legal, tt) c.in_ok-answer_in_room.ensures.ok (λ halted process. refl) (λ w. sym (either (same_seat w who) (course_in old.operations.items w)));
+          c.self.invariant.follows book (legal, tt) c.in_ok-answer_in_room.ensures.ok (λ halted process. refl) (λ w. sym (either (same_seat w who) (course_in old.operations.items w)));
       once = c.in_ok-answer_in_room.ensures.once;
       room = omega (arith, c.self.invariant.room, taken, left, c.in_ok-answer_in_room.ensures.closes);
     }

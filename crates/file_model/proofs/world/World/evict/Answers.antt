@@ -34,7 +34,7 @@ invariant_of-self-2 c =
     let alive : (state_of (past_of old)).halted who.process ≡ false = subst (λ (h : Held). (state_of h.past).halted who.process ≡ false) (sym c.self.view_is) c.requires in
     record {
       follows = follows_on (past_of old) (disk_at old.tables) (disk_at old.tables) (is_among old.halted.items) (course_in old.operations.items) (course_in old.operations.items) (item ∷ []) c.put.new.self.items
-        c.self.invariant.follows book ((alive, (c.known.ensures.fits, c.known-2.ensures)), tt) refl (λ halted process. refl) (λ w. sym (either (same_seat w who) (course_in old.operations.items w)));
+          c.self.invariant.follows book ((alive, (c.known.ensures.fits, c.known-2.ensures)), tt) refl (λ halted process. refl) (λ w. sym (either (same_seat w who) (course_in old.operations.items w)));
       once = c.self.invariant.once;
       room = omega (arith, c.self.invariant.room, left, taken);
     }

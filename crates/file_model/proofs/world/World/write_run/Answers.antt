@@ -36,8 +36,8 @@ invariant_of-self-2 c =
     let is_open : IsOpen (disk_of (past_of old)) who slot = record { small = can.0; filled = can.1 } in
     record {
       follows = follows_on (past_of old) (disk_at old.tables) (disk_at c.write_run.new.self) (is_among old.halted.items) (course_in old.operations.items) (course_in old.operations.items) items c.write_run.new.book.items
-        c.self.invariant.follows (ap (λ (t : Told). t.items) told) (run_legal (state_of (past_of old)) who slot at values alive is_open c.known.ensures)
-        (c.in_ok-write_run.ensures.ok ∙ sym (run_after (disk_at old.tables) who slot at values)) (run_stops_none who slot at values) (λ w. run_courses who slot at values w (course_in old.operations.items w));
+          c.self.invariant.follows (ap (λ (t : Told). t.items) told) (run_legal (state_of (past_of old)) who slot at values alive is_open c.known.ensures)
+          (c.in_ok-write_run.ensures.ok ∙ sym (run_after (disk_at old.tables) who slot at values)) (run_stops_none who slot at values) (λ w. run_courses who slot at values w (course_in old.operations.items w));
       once = rw c.in_ok-write_run.ensures.locks c.self.invariant.once;
       room = rw (c.in_ok-write_run.ensures.slots, told) c.self.invariant.room;
     }

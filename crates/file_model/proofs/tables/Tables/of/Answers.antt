@@ -1,0 +1,25 @@
+use Rattle.std.proofs.Common.{◌≡◌, ◌∙◌, ap, sym, ℕ, List, Option, None, map, length, get_or, [], rules}
+use Rattle.std.proofs.lemmas.List.{length-map}
+use mathlib.Core.Path.{fun_ext}
+use Rattle.cache_types.specs.declared.name.Name.{Name}
+use Rattle.file_log.specs.Disk.{Disk, opening, number_from}
+use Rattle.file_model.specs.declared.parts.NamedFile.{NamedFile}
+use Rattle.file_model.specs.declared.parts.OpenSlot.{OpenSlot}
+use Rattle.file_model.specs.declared.parts.TakenLock.{TakenLock}
+use Rattle.file_model.specs.Starts.{named_from}
+use Rattle.file_model.specs.Tables.{disk_from}
+use Rattle.file_model.specs.Find.{number_of}
+use Rattle.file_model.proofs.Starts.{number_of-named}
+use Rattle.file_model.proofs.tables.Tables.of.Goals as goal
+
+pub returns-clause-disk : goal.returns-clause-disk
+returns-clause-disk c =
+    let start = c.args.start.now in
+    let files : List (List ℕ) = map (λ (pair : Name × List ℕ). pair.1) start in
+    let first : ℕ → (Name → Option ℕ) → Disk = λ n names. record { names = names; count = n; files = λ f. get_or files f []; slots = λ who slot. None; locks = λ f. None } in
+    ap (λ (names : List NamedFile). disk_from names c.in_ok-files_of.field-0.items c.new.result.items c.new-2.result.items) c.in_ok-names_of.ensures
+    ∙ ap (λ (fs : List (List ℕ)). disk_from (named_from 0 start) fs c.new.result.items c.new-2.result.items) c.in_ok-files_of.ensures
+    ∙ ap (λ (slots : List OpenSlot). disk_from (named_from 0 start) files slots c.new-2.result.items) c.new.ensures.items
+    ∙ ap (λ (locks : List TakenLock). disk_from (named_from 0 start) files [] locks) c.new-2.ensures.items
+    ∙ ap (λ (names : Name → Option ℕ). first (length files) names) (fun_ext (number_of-named 0 start))
+    ∙ ap (λ (n : ℕ). first n (number_from 0 start)) (length-map start (λ (pair : Name × List ℕ). pair.1))
