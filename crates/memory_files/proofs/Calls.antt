@@ -189,7 +189,7 @@ run_seen me d course slot at values =
     let now : Disk = rewritten d (d.slots me slot) (written at values) in
     subst (λ (e : Disk). IsSeen (seen_on me e (fold (course_after me) course run)) (seen_on me d course)) (sym (run_after d me slot at values))
     (subst (λ (c : Course). IsSeen (seen_on me now c) (seen_on me d course)) (run_courses me slot at values me course)
-        (same_slots me d now course (seen_on me d course) (write_slots d (d.slots me slot) (written at values)) (unchanged me d course)))
+    (same_slots me d now course (seen_on me d course) (write_slots d (d.slots me slot) (written at values)) (unchanged me d course)))
 
 some_made : (me : Who) (slot at : ℕ) (bytes : List ℕ) → nat_eq (length bytes) 0 ≡ false → byte_items me slot at bytes ≡ items_done me (calls.WriteAt slot at bytes)
 some_made me slot at bytes some = ap (λ (b : Bool). cond b (items.Did me (calls.WriteAt slot at bytes) replies.Done ∷ []) (byte_items me slot at bytes)) (sym some)

@@ -2,3 +2,4 @@ pub mod Failing
 pub mod Streams
 pub mod Seats
 pub mod Failures
+pub mod Files
