@@ -1,0 +1,5 @@
+pub mod Failing
+pub mod Streams
+pub mod Seats
+pub mod Failures
+pub mod Files

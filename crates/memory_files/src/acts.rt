@@ -1,0 +1,106 @@
+ghost use Rattle.std.specs.Prelude.{◌≡◌, false, true, nat_eq, length};
+ghost use Rattle.file_log.specs.declared.call.Call.TheVariants as calls;
+ghost use Rattle.file_log.specs.Exchange.{MayFail};
+ghost use Rattle.file_log.specs.Seat.{MayCall, IsServed};
+ghost use Rattle.file_model.specs.Calls.{MakesOne};
+ghost use Rattle.memory_files.specs.Failures.{Fails, failure as the_failure};
+ghost use Rattle.memory_files.specs.Seats.{Tells, GoesOn, seen_in};
+
+use cache_types::{Bytes, Who};
+use file_log::{Call, Note, Reply};
+use file_model::World;
+
+/// Makes a call of a seat. None is answered Failed.
+pub fn answer(world: &mut World, me: Who, call: Call) -> Reply
+    requires may { MayCall (seen_in me world.old.past) call }
+    requires served { IsServed call }
+    requires goes_on { GoesOn me world.old.past }
+    ensures tells { Tells me call result world.old world.new }
+    ensures never_failed { result ≡ Reply.Failed → ⊥ }
+{
+    match call {
+        Call::Tell(note) => tell(world, me, note),
+        Call::Close { slot } => close(world, me, slot),
+        Call::WriteAt { slot, at, bytes } => write(world, me, slot, at, bytes),
+        call => make(world, me, call),
+    }
+}
+
+/// Tells a note.
+fn tell(world: &mut World, me: Who, note: Note) -> Reply
+    requires { GoesOn me world.old.past }
+    ensures tells { Tells me (calls.Tell note) result world.old world.new }
+    ensures never_failed { result ≡ Reply.Failed → ⊥ }
+{
+    match world.tell(me, note) {
+        Ok(()) => Reply::Done,
+        Err(_) => Reply::NoMemory,
+    }
+}
+
+fn close(world: &mut World, me: Who, slot: u8) -> Reply
+    requires may { MayCall (seen_in me world.old.past) (calls.Close slot) }
+    requires goes_on { GoesOn me world.old.past }
+    ensures tells { Tells me (calls.Close slot) result world.old world.new }
+    ensures never_failed { result ≡ Reply.Failed → ⊥ }
+{
+    world.close(me, slot);
+    Reply::Done
+}
+
+fn write(world: &mut World, me: Who, slot: u8, at: u64, bytes: Bytes) -> Reply
+    requires may { MayCall (seen_in me world.old.past) (calls.WriteAt slot at bytes) }
+    requires goes_on { GoesOn me world.old.past }
+    ensures tells { Tells me (calls.WriteAt slot at bytes) result world.old world.new }
+    ensures never_failed { result ≡ Reply.Failed → ⊥ }
+{
+    if bytes.is_empty() {
+        return make(world, me, Call::WriteAt { slot, at, bytes });
+    }
+    match world.write_run(me, slot, at, bytes) {
+        Ok(()) => Reply::Done,
+        Err(_) => fail(world, me, true),
+    }
+}
+
+/// Makes a call that makes one item.
+fn make(world: &mut World, me: Who, call: Call) -> Reply
+    requires may { MayCall (seen_in me world.old.past) call }
+    requires one { MakesOne call }
+    requires fails { MayFail call }
+    requires served { IsServed call }
+    requires goes_on { GoesOn me world.old.past }
+    ensures tells { Tells me call result world.old world.new }
+    ensures never_failed { result ≡ Reply.Failed → ⊥ }
+{
+    match world.did(me, call) {
+        Ok(reply) => reply,
+        Err(_) => fail(world, me, true),
+    }
+}
+
+/// A call fails now, or with `memory` is refused memory. Outside an operation want of memory is not told,
+/// and takes the place of a failure that there is no memory to tell.
+pub fn fail(world: &mut World, me: Who, memory: bool) -> Reply
+    requires calm { (seen_in me world.old.past).hurt ≡ false }
+    requires goes_on { GoesOn me world.old.past }
+    ensures fails { Fails me memory result world.old world.new }
+{
+    if memory && !world.seen(me).inside {
+        return Reply::NoMemory;
+    }
+    match world.fail(me, memory) {
+        Ok(()) => failure(memory),
+        Err(_) => Reply::NoMemory,
+    }
+}
+
+fn failure(memory: bool) -> Reply
+    ensures { result ≡ the_failure memory }
+{
+    if memory {
+        Reply::NoMemory
+    } else {
+        Reply::Failed
+    }
+}

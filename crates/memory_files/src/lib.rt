@@ -1,0 +1,12 @@
+//! Files and streams in memory, which fail where a test wants them to.
+#![tactic(auto)]
+
+mod acts;
+mod failing;
+mod files;
+mod sink;
+mod source;
+
+pub use files::MemFiles;
+pub use sink::MemSink;
+pub use source::MemSource;
