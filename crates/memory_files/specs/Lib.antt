@@ -3,3 +3,4 @@ pub mod Streams
 pub mod Seats
 pub mod Failures
 pub mod Files
+pub mod Lone

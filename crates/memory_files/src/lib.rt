@@ -4,9 +4,11 @@
 mod acts;
 mod failing;
 mod files;
+mod lone;
 mod sink;
 mod source;
 
 pub use files::MemFiles;
+pub use lone::LoneFiles;
 pub use sink::MemSink;
 pub use source::MemSource;
