@@ -1,0 +1,22 @@
+-- The entry of a blob, and what a lookup of it leaves.
+use Rattle.std.specs.Prelude.{◌≡◌, ℕ, List, [], ◌∷◌, codes, Option, Some}
+use Rattle.cache_types.specs.declared.name.Name.{Name}
+use Rattle.cache_types.specs.declared.name.Name.TheVariants.{Entry}
+use Rattle.cache_tests.specs.declared.premises.TheConstants.{KEY, ENTRY}
+use Rattle.report_text.specs.declared.status.Status.{Status}
+use Rattle.report_text.specs.declared.status.Status.TheVariants as statuses
+
+-- `get` for driver `d` and GPU `g`, in the folder `store`
+abbrev pub words_of_abc : List (List ℕ)
+words_of_abc = codes "get" ∷ codes "--id=d" ∷ codes "--gpu=g" ∷ codes "--layout=folder" ∷ codes "--root=store" ∷ codes "a9993e364706816aba3e25717850c26c9cd0d89d" ∷ []
+
+-- the one file that lies on the disk
+abbrev pub files_of_abc : List (Name × List ℕ)
+files_of_abc = (Entry 0 KEY, ENTRY) ∷ []
+
+-- The blob was printed. Else there was no memory for the lookup, and nothing was printed; or none for what is printed.
+abbrev pub IsFound : Status → Option (List ℕ) → Type 0
+IsFound statuses.Ok written = written ≡ Some (codes "abc")
+IsFound statuses.NoMemory written = written ≡ Some []
+IsFound statuses.WriteFault written = Unit {0}
+IsFound status written = ⊥

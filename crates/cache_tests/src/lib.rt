@@ -1,0 +1,7 @@
+//! What crosses crates: a lookup by the top call over files in memory whose contract is its outcome, and the
+//! tests, over files in memory and over real files.
+#![tactic(auto)]
+
+mod premises;
+
+pub use premises::abc_is_found;
