@@ -1,5 +1,5 @@
 -- Each reply has items that a call with it makes, where no log is told.
-use Rattle.std.proofs.Common.{ℕ, Bool, false, List, [], ◌∷◌, ◌++◌, Option, None, refl}
+use Rattle.std.proofs.Common.{Bool, false, [], ◌∷◌, ◌++◌, Option, None, refl}
 use Rattle.cache_types.specs.declared.seat.Who.{Who}
 use Rattle.file_log.specs.declared.call.Call.{Call}
 use Rattle.file_log.specs.declared.item.LogItem.TheVariants as items

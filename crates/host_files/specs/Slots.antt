@@ -1,5 +1,5 @@
 -- Open files in slots.
-use Rattle.std.specs.Prelude.{ℕ, Bool, List, get_or, Option, Some, None, is_some}
+use Rattle.std.specs.Prelude.{ℕ, Bool, List, get_or, Option, None, is_some}
 
 abbrev pub none : {A : Type 0} → Option A
 none = None

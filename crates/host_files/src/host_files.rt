@@ -11,13 +11,25 @@ use std::alloc::Global;
 use std::fs::File;
 use std::rt::{Clock, Files as RealFiles};
 
-/// Real files, which one seat calls. No log is told.
+/// Real files under a program's paths, which one seat calls. No log is told.
+///
+/// - `Missing` is answered only where the system finds nothing at the path. A folder in a file's place, a
+///   path through a plain file and a file that can't be opened are faults.
+/// - An old file is opened for reading and writing, and where that is denied for reading alone; a later
+///   write of it is then a fault. A new one gets the folders that it lies in.
+/// - A lock is the system's own on the open file: it excludes every other opening of the file, and is free
+///   once its slot is closed or its process ends.
+/// - A reading or writing that the system does in part or that a signal interrupts goes on until it is done.
+/// - The clock's number is nanoseconds since 1970. A pause yields to others at first, and after some of them
+///   sleeps, at last 2 milliseconds.
+/// - The system's want of memory is `NoMemory`; each other refusal is `Failed`, and is counted.
 #[derive(Drop)]
 pub struct HostFiles<R: RealFiles<File = File> + Clock + Drop> {
     alloc: Global,
     rt: R,
     paths: Paths,
     seat: Seat,
+    /// How often the seat paused since it last took a lock or told a note.
     waits: u32,
 }
 
@@ -26,7 +38,7 @@ impl<R: RealFiles<File = File> + Clock + Drop> HostFiles<R> {
     ghost use Rattle.file_log.specs.declared.call.Call.TheVariants as calls;
     ghost use Rattle.file_log.specs.declared.reply.Reply.TheVariants as replies;
     ghost use Rattle.file_log.specs.Seat.{IsFilled, IsEmpty, IsIdle, SlotFits, IsServed};
-    ghost use Rattle.path_names.specs.Paths.{HasPath, path_spelled};
+    ghost use Rattle.path_names.specs.Paths.{HasPath, HasRoot, path_spelled};
     ghost use Rattle.host_files.specs.Calls.{HasPaths};
     ghost use Rattle.host_files.specs.Slots.{filled_in};
     ghost use Rattle.host_files.specs.Seats.{Acts, Went};
@@ -144,6 +156,16 @@ impl<R: RealFiles<File = File> + Clock + Drop> HostFiles<R> {
         Ok(Reply::Done)
     }
 
+    fn list(&self, root: u32, byte: u8) -> Result<Reply, Fault>
+        ensures went { Went self.now.seat (calls.ListFolder root byte) result self.now.seat }
+        ensures outside { (HasRoot self.now.paths root → ⊥) → result ≡ Err faults.Failed }
+    {
+        let lock = self.path(&Name::FolderLock { root, byte })?;
+        let folder = system::folder_of(lock.as_str());
+        let keys = system::list(self.alloc, &self.rt, folder, byte)?;
+        Ok(Reply::Keys(keys))
+    }
+
     fn now(&self) -> Result<Reply, Fault>
         ensures { Went self.now.seat calls.Now result self.now.seat }
     {
@@ -182,7 +204,7 @@ impl<R: RealFiles<File = File> + Clock + Drop> HostFiles<R> {
             Call::Cut { slot, n } => self.cut(*slot, *n),
             Call::Rename { from, to } => self.rename(from, to),
             Call::Remove { name } => self.remove(name),
-            Call::ListFolder { .. } => Err(Fault::Failed),
+            Call::ListFolder { root, byte } => self.list(*root, *byte),
             Call::Now => self.now(),
             Call::Pause => Ok(self.pause()),
             Call::Close { slot } => Ok(self.seat.close(*slot)),
@@ -241,3 +263,6 @@ impl<R: RealFiles<File = File> + Clock + Drop> Files for HostFiles<R> {
 
     fn known(&self) {}
 }
+
+#[cfg(test)]
+mod tests;

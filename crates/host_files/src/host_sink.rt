@@ -8,6 +8,9 @@ use files_api::{Sink, Took};
 use std::io::Print;
 
 /// Standard output. What was written isn't told.
+///
+/// A write is one call of the system, which takes as many bytes as it likes; it is made again where a signal
+/// interrupted it. That it fails, or takes none of some bytes, is a fault.
 #[derive(Drop)]
 pub struct HostSink<R: Print + Drop> {
     rt: R,
@@ -16,7 +19,9 @@ pub struct HostSink<R: Print + Drop> {
 
 impl<R: Print + Drop> HostSink<R> {
     /// The standard output of a program.
-    pub fn new(rt: R) -> HostSink<R> {
+    pub fn new(rt: R) -> HostSink<R>
+        ensures { ⟦<HostSink<R> as Sink>⟧.faults result ≡ 0 }
+    {
         HostSink { rt, faults: 0 }
     }
 

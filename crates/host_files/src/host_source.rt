@@ -48,6 +48,9 @@ fn read_some<T: Read>(reader: &mut T, into: &mut [u8]) -> Result<usize, Fault>
 }
 
 /// Standard input. What is left isn't told.
+///
+/// A reading is one call of the system, of at most 65,536 bytes; it is made again where a signal interrupted
+/// it. That it fails, or that there is no memory for those bytes, is a fault.
 #[derive(Drop)]
 pub struct HostSource<R: Input + Drop> {
     alloc: Global,
@@ -58,7 +61,9 @@ pub struct HostSource<R: Input + Drop> {
 
 impl<R: Input + Drop> HostSource<R> {
     /// The standard input of a program. Nothing is read, and no memory taken, before the first reading.
-    pub fn new(alloc: Global, rt: R) -> HostSource<R> {
+    pub fn new(alloc: Global, rt: R) -> HostSource<R>
+        ensures { ⟦<HostSource<R> as Source>⟧.faults result ≡ 0 }
+    {
         HostSource {
             alloc,
             rt,

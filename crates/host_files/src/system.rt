@@ -1,7 +1,8 @@
 ghost use Rattle.std.specs.Prelude.{◌≤◌, length, IfOk};
 
 use crate::fault::Fault;
-use cache_types::{Bytes, MAX_ITEM};
+use cache_types::{Bytes, Key, KeyList, MAX_ITEM};
+use hex::FromHex;
 use std::alloc::Global;
 use std::fs::{File, OpenOptions, TryLockError};
 use std::io::ErrorKind;
@@ -68,7 +69,7 @@ pub fn open_new<R: RealFiles<File = File>>(rt: &R, path: &str) -> Result<File, F
 }
 
 /// What stands before the last slash of a path.
-fn folder_of(path: &str) -> &str {
+pub fn folder_of(path: &str) -> &str {
     match path.rsplit_once('/') {
         Some((folder, _)) => folder,
         None => "",
@@ -193,6 +194,48 @@ pub fn remove<R: RealFiles>(rt: &R, path: &str) -> Result<(), Fault> {
             _ => Err(Fault::from(error)),
         },
     }
+}
+
+/// The keys of the entries in a folder whose two digits are this byte, ascending. A name that isn't the other
+/// 38 digits of a key, in lower case, is skipped, and a folder that isn't found has none.
+pub fn list<R: RealFiles>(alloc: Global, rt: &R, folder: &str, byte: u8) -> Result<KeyList, Fault> {
+    let mut keys = Vec::new(alloc);
+    let entries = match fs::read_dir(&(rt, alloc), folder) {
+        Ok(entries) => entries,
+        Err(error) => match error.kind() {
+            ErrorKind::NotFound => return Ok(KeyList::new(alloc)),
+            _ => return Err(Fault::from(error)),
+        },
+    };
+    for entry in entries {
+        match entry {
+            Ok(entry) => {
+                if let Some(key) = key_of_entry(byte, entry.file_name()) {
+                    keys.push(key)?;
+                }
+            }
+            // A name that isn't UTF-8.
+            Err(error) if error.kind() == ErrorKind::InvalidFilename => {}
+            Err(error) => return Err(Fault::from(error)),
+        }
+    }
+    keys.sort_unstable();
+    Ok(KeyList::from_vec(keys))
+}
+
+/// The key of an entry's file, by its folder's byte and the 38 digits that are its name.
+fn key_of_entry(byte: u8, name: &str) -> Option<Key> {
+    if name
+        .as_bytes()
+        .iter()
+        .any(|digit| digit.is_ascii_uppercase())
+    {
+        return None;
+    }
+    let rest = <[u8; 19] as FromHex>::from_hex(name).ok()?;
+    let mut bytes = [byte; 20];
+    bytes[1..].copy_from_slice(&rest);
+    Some(Key { bytes })
 }
 
 /// The nanoseconds since 1970.
