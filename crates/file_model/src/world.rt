@@ -224,6 +224,10 @@ impl World {
         ensures err { OnErr result (self.new ≡ self.old) }
     {
         bytes.known();
+        // No memory holds a file that ends beyond the greatest place.
+        let Some(_end) = at.checked_add(bytes.len()) else {
+            return Err(NoMemory);
+        };
         let run = Run {
             who,
             slot,
