@@ -1,5 +1,5 @@
 -- What is known of a history that goes on.
-use Rattle.std.proofs.Common.{◌≡◌, ℕ, ◌+◌, cond, Bool, true, false, List, [], ◌∷◌, ◌++◌, fold, length, Option, Some, None, refl, sym, ap, subst, ◌∙◌, nat_eq, ◌<◌}
+use Rattle.std.proofs.Common.{◌≡◌, ℕ, ◌+◌, cond, Bool, true, false, List, [], ◌∷◌, ◌++◌, fold, Option, Some, None, refl, sym, ap, subst, ◌∙◌, nat_eq, ◌<◌}
 use Rattle.std.specs.Prelude.{IsSome}
 use Rattle.std.specs.List.{AllByRecursion}
 use Rattle.std.proofs.lemmas.Bool.{eqb-true, eq-eqb}
@@ -14,7 +14,7 @@ use Rattle.file_log.specs.Effect.{applied}
 use Rattle.file_log.specs.Exchange.{byte_items}
 use Rattle.file_log.specs.Legal.{Legal, IsLegal, IsOpen}
 use Rattle.file_log.specs.Log.{History}
-use Rattle.file_log.specs.Seat.{Course, course_by, course_after, course_of}
+use Rattle.file_log.specs.Seat.{Course, course_after}
 use Rattle.file_log.specs.State.{State, first, after, halted_after, state_of}
 use Rattle.file_log.specs.Writing.{written}
 use Rattle.file_log.proofs.Logs.{All-append}

@@ -1,4 +1,4 @@
-use Rattle.std.proofs.Common.{◌≡◌, ◌∙◌, sym}
+use Rattle.std.proofs.Common.{◌∙◌, sym}
 use Rattle.file_model.proofs.Runs.{length-byte_items}
 use Rattle.file_model.proofs.book.len_of_run.Goals as goal
 
