@@ -8,7 +8,7 @@ use Rattle.cache_types.specs.declared.name.Name.{Name}
 use Rattle.cache_types.specs.Names.{same_name}
 use Rattle.cache_types.specs.Seats.{same_seat}
 use Rattle.cache_types.proofs.Names.{same_name_decides}
-use Rattle.file_log.specs.Disk.{Lock, is_slot}
+use Rattle.file_log.specs.Disk.{Lock, is_slot, is_process}
 use Rattle.file_model.specs.declared.parts.NamedFile.{NamedFile}
 use Rattle.file_model.specs.declared.parts.OpenSlot.{OpenSlot}
 use Rattle.file_model.specs.declared.parts.TakenLock.{TakenLock}
@@ -200,6 +200,24 @@ by_slot who at (Some lock) = refl
 -- locks that were freed
 pub lock_of-freed : (who : Who) (at : ℕ) (locks : List TakenLock) (f : ℕ) → Once locks → lock_of (filter (λ x. not (is_through who at x)) locks) f ≡ cond (is_slot (lock_of locks f) who at) None (lock_of locks f)
 lock_of-freed who at locks f o = lock_of-freed_by (λ lock. same_seat lock.who who && nat_eq at lock.slot) locks f o ∙ by_slot who at (lock_of locks f)
+
+-- ---- a process that was stopped
+
+abbrev pub goes_on : ℕ → OpenSlot → Bool
+goes_on process x = not (nat_eq x.who.process process)
+
+pub file_in-stopped : (process : ℕ) (slots : List OpenSlot) (w : Who) (a : ℕ) → file_in (filter (goes_on process) slots) w a ≡ cond (nat_eq w.process process) None (file_in slots w a)
+file_in-stopped process slots w a = dropped_if (nat_eq w.process process) (λ x. same_seat w x.who && nat_eq x.slot a) (λ x. x.file) (goes_on process) slots
+    (λ x e.
+    let seat : w ≡ x.who = same_seat-true w x.who (both (same_seat w x.who) (nat_eq x.slot a) e).0 in
+    ap (λ (v : Who). nat_eq v.process process) seat ∙ not_not (nat_eq x.who.process process))
+
+by_process : (process : ℕ) (o : Option Lock) → freed_by (λ lock. nat_eq lock.who.process process) o ≡ cond (is_process process o) None o
+by_process process None = refl
+by_process process (Some lock) = refl
+
+pub lock_of-stopped : (process : ℕ) (locks : List TakenLock) (f : ℕ) → Once locks → lock_of (filter (λ x. not (nat_eq x.who.process process)) locks) f ≡ cond (is_process process (lock_of locks f)) None (lock_of locks f)
+lock_of-stopped process locks f o = lock_of-freed_by (λ lock. nat_eq lock.who.process process) locks f o ∙ by_process process (lock_of locks f)
 
 -- ---- open operations
 

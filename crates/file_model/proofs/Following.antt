@@ -1,5 +1,5 @@
 -- What is known of a history that goes on.
-use Rattle.std.proofs.Common.{◌≡◌, ℕ, ◌+◌, cond, Bool, true, false, List, [], ◌∷◌, ◌++◌, fold, length, Option, Some, None, refl, sym, ap, subst, ◌∙◌, nat_eq, ◌<◌}
+use Rattle.std.proofs.Common.{◌≡◌, ℕ, ◌+◌, cond, Bool, true, false, List, [], ◌∷◌, ◌++◌, fold, Option, Some, None, refl, sym, ap, subst, ◌∙◌, nat_eq, ◌<◌}
 use Rattle.std.specs.Prelude.{IsSome}
 use Rattle.std.specs.List.{AllByRecursion}
 use Rattle.std.proofs.lemmas.Bool.{eqb-true, eq-eqb}
@@ -14,7 +14,7 @@ use Rattle.file_log.specs.Effect.{applied}
 use Rattle.file_log.specs.Exchange.{byte_items}
 use Rattle.file_log.specs.Legal.{Legal, IsLegal, IsOpen}
 use Rattle.file_log.specs.Log.{History}
-use Rattle.file_log.specs.Seat.{Course, course_by, course_after, course_of}
+use Rattle.file_log.specs.Seat.{Course, course_after}
 use Rattle.file_log.specs.State.{State, first, after, halted_after, state_of}
 use Rattle.file_log.specs.Writing.{written}
 use Rattle.file_log.proofs.Logs.{All-append}
@@ -37,20 +37,28 @@ StopsNone news = (halted : ℕ → Bool) (process : ℕ) → fold halted_after h
 abbrev with_log : History → List LogItem → History
 with_log h log = record { start = h.start; log = log }
 
+pub follows_to : (h : History) (d d' : Disk) (halted halted' : ℕ → Bool) (courses courses' : Who → Course) (news log' : List LogItem)
+    → Follows h d halted courses → log' ≡ h.log ++ news → Legal (state_of h) news
+    → d' ≡ fold applied d news → ((process : ℕ) → halted' process ≡ fold halted_after halted news process) → ((who : Who) → courses' who ≡ fold (course_after who) (courses who) news)
+    → Follows (record { start = h.start; log = log' }) d' halted' courses'
+follows_to h d d' halted halted' courses courses' news log' f e legal disk halted_are courses_are =
+    let s = state_of h in
+    let whole : state_of (with_log h (h.log ++ news)) ≡ fold after s news = fold-append after (first h.start) h.log news in
+    let same : halted ≡ s.halted = fun_ext f.halted_is in
+    subst (λ (log : List LogItem). Follows (with_log h log) d' halted' courses') (sym e)
+    record {
+      disk = disk ∙ ap (λ (x : Disk). fold applied x news) f.disk ∙ sym (disk_after s news) ∙ ap (λ (x : State). x.disk) (sym whole);
+      halted_is = λ process. halted_are process ∙ ap (λ (g : ℕ → Bool). fold halted_after g news process) same ∙ sym (halted_after_all s news process) ∙ ap (λ (x : State). x.halted process) (sym whole);
+      courses_are = λ who. courses_are who ∙ ap (λ (c : Course). fold (course_after who) c news) (f.courses_are who) ∙ sym (fold-append (course_after who) (record { inside = false; hurt = false }) h.log news);
+      legal = All-append after IsLegal (first h.start) h.log news f.legal legal;
+    }
+
+-- by items that stop no process
 pub follows_on : (h : History) (d d' : Disk) (halted : ℕ → Bool) (courses courses' : Who → Course) (news log' : List LogItem)
     → Follows h d halted courses → log' ≡ h.log ++ news → Legal (state_of h) news
     → d' ≡ fold applied d news → StopsNone news → ((who : Who) → courses' who ≡ fold (course_after who) (courses who) news)
     → Follows (record { start = h.start; log = log' }) d' halted courses'
-follows_on h d d' halted courses courses' news log' f e legal disk none courses_are =
-    let s = state_of h in
-    let whole : state_of (with_log h (h.log ++ news)) ≡ fold after s news = fold-append after (first h.start) h.log news in
-    subst (λ (log : List LogItem). Follows (with_log h log) d' halted courses') (sym e)
-    record {
-      disk = disk ∙ ap (λ (x : Disk). fold applied x news) f.disk ∙ sym (disk_after s news) ∙ ap (λ (x : State). x.disk) (sym whole);
-      halted_is = λ process. f.halted_is process ∙ sym (none s.halted process) ∙ sym (halted_after_all s news process) ∙ ap (λ (x : State). x.halted process) (sym whole);
-      courses_are = λ who. courses_are who ∙ ap (λ (c : Course). fold (course_after who) c news) (f.courses_are who) ∙ sym (fold-append (course_after who) (record { inside = false; hurt = false }) h.log news);
-      legal = All-append after IsLegal (first h.start) h.log news f.legal legal;
-    }
+follows_on h d d' halted courses courses' news log' f e legal disk none courses_are = follows_to h d d' halted halted courses courses' news log' f e legal disk (λ process. sym (none halted process)) courses_are
 
 -- nothing new
 pub follows_still : (h : History) (d d' : Disk) (halted : ℕ → Bool) (courses courses' : Who → Course) (log' : List LogItem)

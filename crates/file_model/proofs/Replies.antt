@@ -1,6 +1,6 @@
 -- A reply that a call has on a disk is one of its replies.
-use Rattle.std.proofs.Common.{◌≡◌, ◌≤◌, ℕ, Bool, List, Option, Some, None, length, take, drop, min, ap, ◌∙◌, subst, sym, arith}
-use Rattle.std.specs.Prelude.{IsSomeAnd, is_some, IsSome}
+use Rattle.std.proofs.Common.{◌≡◌, ◌≤◌, ℕ, Bool, List, Option, Some, None, length, take, drop, ap, arith}
+use Rattle.std.specs.Prelude.{IsSomeAnd}
 use Rattle.std.proofs.lemmas.List.{length-take}
 use Rattle.cache_types.specs.declared.key.Key.{Key}
 use Rattle.cache_types.specs.declared.seat.Who.{Who}
@@ -10,9 +10,8 @@ use Rattle.file_log.specs.declared.reply.Reply.{Reply}
 use Rattle.file_log.specs.declared.reply.Reply.TheVariants as replies
 use Rattle.file_log.specs.Disk.{Disk, bytes_at}
 use Rattle.file_log.specs.Exchange.{Answers, MayBeDone, MayBeMissing, MayBeHeld, MayGet, MayNumber, MayList}
-use Rattle.file_log.specs.Legal.{IsReply, IsDone, IsMissing, IsHeld, IsGot, IsNumber, IsKeys, IsFree, IsOpen}
-use Rattle.file_log.specs.Seat.{SlotFits}
-use Rattle.file_model.specs.Calls.{IsNoFailure, SlotsFit, filled_of}
+use Rattle.file_log.specs.Legal.{IsReply, IsDone, IsMissing, IsHeld, IsGot, IsNumber, IsKeys}
+use Rattle.file_model.specs.Calls.{IsNoFailure}
 
 done_fits : (d : Disk) (who : Who) (call : Call) → IsDone d who call → MayBeDone call
 done_fits d who (calls.Length slot) p = absurd p

@@ -1,5 +1,5 @@
 -- Calls that make one item, and what they need of the slots.
-use Rattle.std.specs.Prelude.{◌≡◌, ℕ, Bool, List, [], is_some}
+use Rattle.std.specs.Prelude.{◌≡◌, ℕ, Bool, [], is_some}
 use Rattle.cache_types.specs.declared.seat.Who.{Who}
 use Rattle.file_log.specs.declared.call.Call.{Call}
 use Rattle.file_log.specs.declared.call.Call.TheVariants as calls

@@ -1,5 +1,5 @@
 -- What stands beside a name, a slot, a file or a seat in a list.
-use Rattle.std.specs.Prelude.{◌≡◌, ℕ, ◌+◌, nat_eq, Bool, true, false, ◌&&◌, List, [], ◌∷◌, Option, Some, None, if◌then◌else◌}
+use Rattle.std.specs.Prelude.{◌≡◌, ℕ, ◌+◌, nat_eq, Bool, false, ◌&&◌, ◌||◌, List, [], ◌∷◌, Option, Some, None, if◌then◌else◌}
 use Rattle.cache_types.specs.declared.seat.Who.{Who}
 use Rattle.cache_types.specs.declared.name.Name.{Name}
 use Rattle.cache_types.specs.Names.{same_name}
@@ -41,7 +41,7 @@ Once (lock ∷ locks) = (lock_of locks lock.file ≡ None) × Once locks
 -- the number is among these
 abbrev pub is_among : List ℕ → ℕ → Bool
 is_among [] n = false
-is_among (other ∷ numbers) n = if nat_eq other n then true else is_among numbers n
+is_among (other ∷ numbers) n = nat_eq other n || is_among numbers n
 
 -- the sum of what each element weighs
 abbrev pub total : {A : Type 0} → (A → ℕ) → List A → ℕ

@@ -1,5 +1,5 @@
 -- The open operation of a seat.
-use Rattle.std.specs.Prelude.{ℕ, Bool, true, false, not, List, Option, Some, None}
+use Rattle.std.specs.Prelude.{Bool, true, false, not, List, Option, Some, None}
 use Rattle.cache_types.specs.declared.seat.Who.{Who}
 use Rattle.cache_types.specs.Seats.{same_seat}
 use Rattle.file_log.specs.Seat.{Course}

@@ -1,5 +1,5 @@
 -- For how many items a world keeps memory, so that they are never refused.
-use Rattle.std.specs.Prelude.{ℕ, ◌+◌, Bool, true, false, List}
+use Rattle.std.specs.Prelude.{ℕ, Bool, true, false, List}
 use Rattle.file_log.specs.declared.call.Call.{Call}
 use Rattle.file_log.specs.declared.call.Call.TheVariants as calls
 use Rattle.file_log.specs.declared.reply.Reply.{Reply}

@@ -1,5 +1,5 @@
 -- What a world shows of a seat.
-use Rattle.std.specs.Prelude.{ℕ, Bool, false, get_or}
+use Rattle.std.specs.Prelude.{false, get_or}
 use Rattle.cache_types.specs.declared.seat.Who.{Who}
 use Rattle.file_log.specs.Log.{History}
 use Rattle.file_log.specs.Seat.{Seen, course_of}

@@ -1,5 +1,5 @@
 -- What a book shows.
-use Rattle.std.specs.Prelude.{◌≡◌, ℕ, ◌+◌, ◌-◌, List, ◌++◌}
+use Rattle.std.specs.Prelude.{ℕ, ◌-◌, List, ◌++◌}
 use Rattle.file_log.specs.declared.item.LogItem.{LogItem}
 
 -- the items that are in it, and for how many more the memory is there

@@ -1,5 +1,5 @@
 -- What the fields of a world mean.
-use Rattle.std.specs.Prelude.{◌≡◌, ◌≤◌, ◌+◌}
+use Rattle.std.specs.Prelude.{◌≤◌, ◌+◌}
 use Rattle.file_log.specs.Log.{History}
 use Rattle.file_model.specs.declared.world.World.TheInside.{Inside}
 use Rattle.file_model.specs.Held.{Held}

@@ -1,4 +1,4 @@
-ghost use Rattle.std.specs.Prelude.{◌≡◌, ◌≤◌, ◌<◌, ◌+◌, ◌-◌, ◌++◌, ◌∷◌, [], OnOk, OnErr, None, length, IsTrue};
+ghost use Rattle.std.specs.Prelude.{◌≡◌, ◌≤◌, ◌<◌, ◌+◌, ◌-◌, ◌++◌, ◌∷◌, ◌^◌, [], OnOk, OnErr, IfOk, None, length, min, IsTrue};
 ghost use Rattle.std.specs.Vec.{vec_len, vec_capacity};
 ghost use Rattle.file_log.specs.declared.item.LogItem.TheVariants.{Byte};
 ghost use Rattle.file_model.specs.Pieces.{items_of_run, items_of_piece, items_of_pieces, items_grown, runs_grown};
@@ -87,6 +87,31 @@ impl Book {
         self.room -= 1;
     }
 
+    /// How many items there are, or the greatest number where there are more.
+    pub fn len(&self) -> u64
+        ensures { result ≡ min (length self.now.items) (2 ^ 64 - 1) }
+    {
+        let mut len: u64 = 0;
+        for piece in &self.pieces {
+            len = len.saturating_add(len_of_piece(piece));
+        }
+        len.saturating_add(len_of_growing(&self.growing))
+    }
+
+    /// A copy of the items.
+    pub fn items(&self) -> Result<Vec<LogItem>, NoMemory>
+        ensures { IfOk result (λ items. items.items ≡ self.now.items) }
+    {
+        let mut items = Vec::new(self.alloc);
+        for piece in &self.pieces {
+            copy_piece(self.alloc, &mut items, piece)?;
+        }
+        if let Some(run) = &self.growing {
+            copy_run(&mut items, run)?;
+        }
+        Ok(items)
+    }
+
     /// Adds one byte that was written.
     pub fn put_byte(&mut self, who: Who, slot: u8, at: u64, value: u8) -> Result<(), NoMemory>
         ensures ok { OnOk result (self.new ≡ with_news self.old (Byte who slot at value ∷ [])) }
@@ -145,4 +170,59 @@ fn add(pieces: &mut Vec<Piece>, growing: &mut Option<Run>, piece: Piece)
 {
     settle(pieces, growing);
     let _pushed = pieces.push(piece);
+}
+
+/// How many items a run stands for.
+fn len_of_run(run: &Run) -> u64
+    ensures { result ≡ length (items_of_run run.now) }
+{
+    run.bytes.len()
+}
+
+/// How many items a piece stands for.
+fn len_of_piece(piece: &Piece) -> u64
+    ensures { result ≡ length (items_of_piece piece.now) }
+{
+    match piece {
+        Piece::One(_) => 1,
+        Piece::Written(run) => len_of_run(run),
+    }
+}
+
+/// How many items the run that grows stands for.
+fn len_of_growing(growing: &Option<Run>) -> u64
+    ensures { result ≡ length (items_grown growing.now) }
+{
+    match growing {
+        None => 0,
+        Some(run) => len_of_run(run),
+    }
+}
+
+/// Adds a copy of each item of a piece.
+fn copy_piece(alloc: Global, items: &mut Vec<LogItem>, piece: &Piece) -> Result<(), NoMemory>
+    ensures { OnOk result (items.new.items ≡ items.old.items ++ items_of_piece piece.now) }
+{
+    match piece {
+        Piece::One(item) => {
+            items.push(item.copy(alloc)?)?;
+            Ok(())
+        }
+        Piece::Written(run) => copy_run(items, run),
+    }
+}
+
+/// Adds an item for each byte of a run.
+fn copy_run(items: &mut Vec<LogItem>, run: &Run) -> Result<(), NoMemory>
+    ensures { OnOk result (items.new.items ≡ items.old.items ++ items_of_run run.now) }
+{
+    for (index, value) in run.bytes.as_slice().iter().enumerate() {
+        items.push(LogItem::Byte {
+            who: run.who,
+            slot: run.slot,
+            at: run.at + index as u64,
+            value: *value,
+        })?;
+    }
+    Ok(())
 }

@@ -4,7 +4,7 @@ ghost use Rattle.cache_types.specs.Names.{same_name};
 ghost use Rattle.cache_types.specs.Seats.{same_seat};
 ghost use Rattle.cache_types.specs.declared.name.Name.{Name};
 ghost use Rattle.cache_types.specs.declared.seat.Who.{Who};
-ghost use Rattle.file_log.specs.Disk.{Lock, is_slot};
+ghost use Rattle.file_log.specs.Disk.{Lock, is_slot, is_process};
 ghost use Rattle.file_model.specs.Find.{number_of as the_number, file_in as the_file, lock_of as the_lock, is_among as among, locked_by, Once};
 ghost use Rattle.file_model.specs.Room.{closes};
 
@@ -92,4 +92,21 @@ pub fn free(locks: &mut Vec<TakenLock>, who: Who, at: u8)
     ensures locks { (f : ℕ) → the_lock locks.new.items f ≡ (if is_slot (the_lock locks.old.items f) who at then None else the_lock locks.old.items f) }
 {
     locks.retain(|taken| !(taken.who.is(who) && at == taken.slot));
+}
+
+/// Empties the slots of a process.
+pub fn empty_all(slots: &mut Vec<OpenSlot>, process: u32)
+    ensures slots { (w : Who) (a : ℕ) → the_file slots.new.items w a ≡ (if nat_eq w.process process then None else the_file slots.old.items w a) }
+    ensures no_more { closes slots.new.items ≤ closes slots.old.items }
+{
+    slots.retain(|open| open.who.process != process);
+}
+
+/// Frees the locks of a process.
+pub fn free_all(locks: &mut Vec<TakenLock>, process: u32)
+    requires { Once locks.old.items }
+    ensures once { Once locks.new.items }
+    ensures locks { (f : ℕ) → the_lock locks.new.items f ≡ (if is_process process (the_lock locks.old.items f) then None else the_lock locks.old.items f) }
+{
+    locks.retain(|taken| taken.who.process != process);
 }

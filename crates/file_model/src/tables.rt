@@ -3,7 +3,7 @@ ghost use Rattle.cache_types.specs.declared.seat.Who.{Who};
 ghost use Rattle.file_log.specs.declared.call.Call.TheVariants.{OpenOld, OpenNew, TryLock, Cut, Close};
 ghost use Rattle.file_log.specs.declared.item.LogItem.TheVariants.{Byte};
 ghost use Rattle.file_log.specs.declared.reply.Reply.TheVariants.{Done, Held};
-ghost use Rattle.file_log.specs.Disk.{Disk, opening, bytes_in as the_bytes, rewritten, renamed};
+ghost use Rattle.file_log.specs.Disk.{Disk, opening, bytes_in as the_bytes, rewritten, renamed, stopped, file_of};
 ghost use Rattle.file_log.specs.Effect.{after_call, done_call};
 ghost use Rattle.file_log.specs.Legal.{IsReply, is_slot_held};
 ghost use Rattle.file_log.specs.Seat.{IsServed};
@@ -17,7 +17,7 @@ ghost use Rattle.file_model.specs.Told.{with_news};
 
 use crate::book::Book;
 use crate::file::File;
-use crate::find::{empty, file_in, forget, free, lock_of, number_of};
+use crate::find::{empty, empty_all, file_in, forget, free, free_all, lock_of, number_of};
 use crate::parts::{NamedFile, OpenSlot, TakenLock};
 use crate::piece::Run;
 use cache_types::{Bytes, Name, NoMemory, Who};
@@ -291,6 +291,30 @@ impl Tables {
     {
         empty(&mut self.slots, who, slot);
         free(&mut self.locks, who, slot);
+    }
+
+    /// Empties all slots of a process and frees all its locks. Takes no memory.
+    pub fn stop(&mut self, process: u32)
+        requires { Once self.old.locks.items }
+        ensures disk { disk_at self.new ≡ stopped (disk_at self.old) process }
+        ensures once { Once self.new.locks.items }
+        ensures no_more { closes self.new.slots.items ≤ closes self.old.slots.items }
+    {
+        empty_all(&mut self.slots, process);
+        free_all(&mut self.locks, process);
+    }
+
+    /// A copy of the bytes of the file that a name has.
+    pub fn file(&self, alloc: Global, name: &Name) -> Result<Option<Bytes>, NoMemory>
+        ensures { IfOk result (λ bytes. bytes ≡ file_of (disk_at self.now) name.now) }
+    {
+        match number_of(&self.names, name) {
+            None => Ok(None),
+            Some(file) => {
+                let bytes = Bytes::of(alloc, bytes_in(&self.files, Some(file)))?;
+                Ok(Some(bytes))
+            }
+        }
     }
 
     /// What a call does that is answered Done.

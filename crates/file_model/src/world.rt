@@ -1,8 +1,9 @@
-ghost use Rattle.std.specs.Prelude.{◌≡◌, ◌≤◌, ◌<◌, ◌+◌, ◌-◌, ◌∷◌, [], ℕ, Bool, true, false, get_or, OnOk, OnErr, IfOk, IsOk, IsSome, is_some, if◌then◌else◌};
+ghost use Rattle.std.specs.Prelude.{◌≡◌, ◌≤◌, ◌<◌, ◌+◌, ◌-◌, ◌^◌, ◌∷◌, [], ℕ, Bool, true, false, get_or, length, min, OnOk, OnErr, IfOk, IsOk, IsSome, is_some, if◌then◌else◌};
 ghost use Rattle.std.specs.Vec.{vec_len, vec_capacity};
 ghost use Rattle.cache_types.specs.Seats.{same_seat};
 ghost use Rattle.cache_types.specs.declared.seat.Who.{Who};
 ghost use Rattle.file_log.specs.declared.item.LogItem.TheVariants as items;
+ghost use Rattle.file_log.specs.Disk.{file_of};
 ghost use Rattle.file_log.specs.Effect.{after_call};
 ghost use Rattle.file_log.specs.Exchange.{Answers, NoteMayLack, byte_items, item_of_note};
 ghost use Rattle.file_log.specs.Legal.{Legal, IsLegal, IsOpen};
@@ -82,6 +83,14 @@ fn answer_in_room(
             Err(e)
         }
     }
+}
+
+/// Adds a process, in memory that was taken for it.
+fn halt(halted: &mut Vec<u32>, process: u32)
+    requires { vec_len halted.old < vec_capacity halted.old }
+    ensures { halted.new.items ≡ process ∷ halted.old.items }
+{
+    let _added = halted.insert(0, process);
 }
 
 /// How many Closes an answered call has to come.
@@ -224,6 +233,10 @@ impl World {
         ensures err { OnErr result (self.new ≡ self.old) }
     {
         bytes.known();
+        // No memory holds a file that ends beyond the greatest place.
+        let Some(_end) = at.checked_add(bytes.len()) else {
+            return Err(NoMemory);
+        };
         let run = Run {
             who,
             slot,
@@ -306,6 +319,42 @@ impl World {
         end_in_room(&mut self.book, &mut self.operations, who)?;
         self.book.put(LogItem::End { who, answer });
         Ok(())
+    }
+
+    /// Stops a process: its slots are empty and its locks free, and what it wrote stays. A process can be
+    /// stopped again. A refusal changes nothing.
+    pub fn stop(&mut self, process: u32) -> Result<(), NoMemory>
+        ensures ok { OnOk result (self.new ≡ told self.old (items.Stop process ∷ [])) }
+        ensures legal { IsLegal (state_of self.old.past) (items.Stop process) }
+        ensures err { OnErr result (self.new ≡ self.old) }
+    {
+        self.halted.reserve(1)?;
+        self.book.make_room(1)?;
+        halt(&mut self.halted, process);
+        self.tables.stop(process);
+        self.book.put(LogItem::Stop { process });
+        Ok(())
+    }
+
+    /// A copy of the bytes of the file that a name has now; `None` exactly where it has none.
+    pub fn file(&self, name: &Name) -> Result<Option<Bytes>, NoMemory>
+        ensures { IfOk result (λ bytes. bytes ≡ file_of (disk_of self.now.past) name.now) }
+    {
+        self.tables.file(self.alloc, name)
+    }
+
+    /// A copy of the log.
+    pub fn log(&self) -> Result<Vec<LogItem>, NoMemory>
+        ensures { IfOk result (λ items. items.items ≡ self.now.past.log) }
+    {
+        self.book.items()
+    }
+
+    /// How many items the log has, or the greatest number where it has more. Takes no memory.
+    pub fn log_len(&self) -> u64
+        ensures { result ≡ min (length self.now.past.log) (2 ^ 64 - 1) }
+    {
+        self.book.len()
     }
 
     /// What the log says of a seat. Takes no memory.

@@ -1,6 +1,6 @@
-use Rattle.std.proofs.Common.{◌≡◌, ◌≤◌, ◌+◌, ◌∙◌, ap, sym, Some, Bool, true, false, arith, rules}
+use Rattle.std.proofs.Common.{◌≡◌, ap, Some, arith, rules}
 use Rattle.file_model.specs.Operations.{operation_of}
-use Rattle.file_model.specs.Room.{ends, ends_of}
+use Rattle.file_model.specs.Room.{ends_of}
 use Rattle.file_model.specs.Told.{Told}
 use Rattle.file_model.proofs.operations.end_in_room.Goals as goal
 

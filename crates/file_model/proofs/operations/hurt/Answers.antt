@@ -1,7 +1,6 @@
-use Rattle.std.proofs.Common.{◌≡◌, ◌≤◌, ◌+◌, ◌∙◌, ap, sym, Some, false, true, Bool, arith, rules}
-use Rattle.file_model.specs.declared.parts.OpenOperation.{OpenOperation}
+use Rattle.std.proofs.Common.{◌≡◌, ◌≤◌, ap, Some, false, true, Bool, arith, rules}
 use Rattle.file_model.specs.Operations.{operation_of}
-use Rattle.file_model.specs.Room.{ends, ends_of}
+use Rattle.file_model.specs.Room.{ends_of}
 use Rattle.file_model.proofs.operations.hurt.Goals as goal
 
 some_end : (hurt : Bool) → 1 ≤ ends_of hurt

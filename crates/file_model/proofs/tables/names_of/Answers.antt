@@ -1,4 +1,4 @@
-use Rattle.std.proofs.Common.{◌≡◌, ◌∙◌, ap, sym, refl, ℕ, List, ◌++◌, ◌∷◌, [], ◌+◌, ◌<◌, take, get_or, length, arith, rules}
+use Rattle.std.proofs.Common.{◌≡◌, ◌∙◌, ap, sym, refl, ℕ, List, ◌++◌, ◌∷◌, [], ◌+◌, ◌<◌, take, get_or, length, arith}
 use Rattle.cache_types.specs.declared.name.Name.{Name}
 use Rattle.file_model.specs.declared.parts.NamedFile.{NamedFile}
 use Rattle.file_model.specs.Starts.{named_from}

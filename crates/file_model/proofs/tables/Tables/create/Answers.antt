@@ -1,9 +1,9 @@
-use Rattle.std.proofs.Common.{◌≡◌, ◌∙◌, ap, sym, None, ℕ, Option, length, List, ◌∷◌, ◌++◌, []}
+use Rattle.std.proofs.Common.{◌≡◌, ◌∙◌, ap, sym, None, ℕ, length, List, ◌∷◌, ◌++◌, []}
 use Rattle.cache_types.specs.declared.name.Name.{Name}
 use Rattle.file_model.specs.declared.parts.NamedFile.{NamedFile}
 use Rattle.file_model.specs.declared.parts.OpenSlot.{OpenSlot}
 use Rattle.file_model.specs.Find.{number_of}
-use Rattle.file_model.specs.Tables.{disk_from, disk_at}
+use Rattle.file_model.specs.Tables.{disk_from}
 use Rattle.file_model.proofs.Disks.{created, named_file, open_slot}
 use Rattle.file_model.proofs.tables.Tables.create.Goals as goal
 

@@ -1,14 +1,13 @@
-use Rattle.std.proofs.Common.{◌≡◌, ◌∙◌, ap, sym, ℕ, List, Option, None, map, length, get_or, [], rules}
+use Rattle.std.proofs.Common.{◌∙◌, ap, ℕ, List, Option, None, map, length, get_or, []}
 use Rattle.std.proofs.lemmas.List.{length-map}
 use mathlib.Core.Path.{fun_ext}
 use Rattle.cache_types.specs.declared.name.Name.{Name}
-use Rattle.file_log.specs.Disk.{Disk, opening, number_from}
+use Rattle.file_log.specs.Disk.{Disk, number_from}
 use Rattle.file_model.specs.declared.parts.NamedFile.{NamedFile}
 use Rattle.file_model.specs.declared.parts.OpenSlot.{OpenSlot}
 use Rattle.file_model.specs.declared.parts.TakenLock.{TakenLock}
 use Rattle.file_model.specs.Starts.{named_from}
 use Rattle.file_model.specs.Tables.{disk_from}
-use Rattle.file_model.specs.Find.{number_of}
 use Rattle.file_model.proofs.Starts.{number_of-named}
 use Rattle.file_model.proofs.tables.Tables.of.Goals as goal
 

@@ -1,25 +1,14 @@
-use Rattle.std.proofs.Common.{◌≡◌, ◌∙◌, ◌++◌, ◌∷◌, [], ◌+◌, ◌-◌, ◌≤◌, ◌<◌, List, ℕ, Bool, true, false, ap, sym, refl, subst, arith, rules}
-use Rattle.std.specs.Prelude.{IsSome}
-use Rattle.cache_types.specs.declared.seat.Who.{Who}
-use Rattle.cache_types.specs.Seats.{same_seat}
-use Rattle.file_log.specs.declared.call.Call.TheVariants.{Close}
-use Rattle.file_log.specs.declared.reply.Reply.TheVariants.{Done}
+use Rattle.std.proofs.Common.{◌≡◌, ◌∙◌, ◌++◌, ◌∷◌, [], ◌-◌, List, false, ap, sym, refl, subst, arith}
 use Rattle.file_log.specs.declared.item.LogItem.{LogItem}
-use Rattle.file_log.specs.declared.item.LogItem.TheVariants.{Did, Byte, Failed, Begin, End, Evict}
-use Rattle.file_log.specs.Disk.{Disk}
-use Rattle.file_log.specs.Exchange.{byte_items}
-use Rattle.file_log.specs.Legal.{IsLegal, IsOpen, Legal}
-use Rattle.file_log.specs.Seat.{IsFilled}
-use Rattle.file_log.specs.State.{state_of, disk_of}
-use Rattle.file_model.specs.Calls.{filled_of}
+use Rattle.file_log.specs.declared.item.LogItem.TheVariants.{Begin}
+use Rattle.file_log.specs.State.{state_of}
 use Rattle.file_model.specs.Find.{is_among}
 use Rattle.file_model.specs.Held.{Held}
 use Rattle.file_model.specs.Operations.{course_in}
-use Rattle.file_model.specs.Room.{closes, ends}
 use Rattle.file_model.specs.Tables.{disk_at}
 use Rattle.file_model.specs.Told.{Told}
 use Rattle.file_model.specs.Worlds.{past_of}
-use Rattle.file_model.proofs.Following.{follows_on, follows_still, either, run_after, run_stops_none, run_courses, run_legal}
+use Rattle.file_model.proofs.Following.{follows_on}
 use Rattle.file_model.proofs.world.World.begin.Goals as goal
 
 pub invariant_of-self-2 : goal.invariant_of-self-2

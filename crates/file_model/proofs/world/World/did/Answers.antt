@@ -1,5 +1,4 @@
-use Rattle.std.proofs.Common.{◌≡◌, ◌∙◌, ◌++◌, ◌∷◌, [], ◌+◌, ◌-◌, ◌≤◌, List, ℕ, Bool, false, ap, sym, refl, subst, arith, rules}
-use Rattle.cache_types.specs.declared.seat.Who.{Who}
+use Rattle.std.proofs.Common.{◌≡◌, ◌∙◌, ◌++◌, ◌∷◌, [], ◌+◌, ◌-◌, List, false, ap, sym, refl, subst, arith}
 use Rattle.file_log.specs.declared.reply.Reply.{Reply}
 use Rattle.file_log.specs.declared.item.LogItem.{LogItem}
 use Rattle.file_log.specs.declared.item.LogItem.TheVariants.{Did}
@@ -10,7 +9,7 @@ use Rattle.cache_types.specs.Seats.{same_seat}
 use Rattle.file_model.specs.Find.{is_among}
 use Rattle.file_model.specs.Held.{Held}
 use Rattle.file_model.specs.Operations.{course_in}
-use Rattle.file_model.specs.Room.{closes, closes_by, ends}
+use Rattle.file_model.specs.Room.{closes_by}
 use Rattle.file_model.specs.Tables.{disk_at}
 use Rattle.file_model.specs.Told.{Told}
 use Rattle.file_model.specs.Worlds.{past_of}
