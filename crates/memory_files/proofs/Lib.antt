@@ -1,3 +1,4 @@
 mod Telling
 mod Calls
 mod Failures
+mod Planned

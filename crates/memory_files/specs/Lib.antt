@@ -2,4 +2,5 @@ pub mod Failing
 pub mod Streams
 pub mod Seats
 pub mod Failures
+pub mod Plans
 pub mod Files

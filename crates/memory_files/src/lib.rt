@@ -4,9 +4,11 @@
 mod acts;
 mod failing;
 mod files;
+mod plan;
 mod sink;
 mod source;
 
 pub use files::MemFiles;
+pub use plan::Fault;
 pub use sink::MemSink;
 pub use source::MemSource;
