@@ -22,11 +22,7 @@ fn one_root(alloc: Global, root: &str) -> Result<Paths, NoMemory>
 /// # Errors
 ///
 /// `Usage` exactly where the words ask for nothing that is served; `NoMemory`.
-pub fn plan_of(
-    alloc: Global,
-    words: &[String],
-    _vars: &[(String, String)],
-) -> Result<Paths, Status>
+pub fn plan_of(alloc: Global, words: &[String], _vars: &[(String, String)]) -> Result<Paths, Status>
     ensures paths { IfOk result (λ paths. HasRoot (map string_bytes words.now) paths.roots × (paths.list ≡ None)) }
     ensures usage { (result ≡ Err Status.Usage) ↔ HasNoReading (map string_bytes words.now) }
     ensures refused { IfErr result (λ status. (status ≡ Status.Usage) ⊎ (status ≡ Status.NoMemory)) }

@@ -45,7 +45,7 @@ same_blob d e d_is e_is same = same_driver d e [] [] d_is e_is (ap (λ (x : List
 -- comparing their blobs compares the drivers
 pub same_test : (d e : DriverKeys) (x y : List ℕ) (r : Bool) → IsDriver d → IsDriver e → x ≡ blob_of d → y ≡ blob_of e → r ≡ pointwise nat_eq x y → IsTrue r ↔ (d ≡ e)
 same_test d e x y r d_is e_is x_is y_is r_is =
-    let decides = bytes_decides x y in
-    ( λ yes. same_blob d e d_is e_is (sym x_is ∙ decides.0 (sym r_is ∙ yes) ∙ y_is)
-    , λ same. r_is ∙ decides.1 (x_is ∙ ap blob_of same ∙ sym y_is)
+    let decides = bytes_decides x y in (
+      λ yes. same_blob d e d_is e_is (sym x_is ∙ decides.0 (sym r_is ∙ yes) ∙ y_is),
+      λ same. r_is ∙ decides.1 (x_is ∙ ap blob_of same ∙ sym y_is),
     )

@@ -1,5 +1,5 @@
 ghost use Rattle.std.specs.Prelude.{◌≡◌, ◌⊎◌, ◌↔◌, ◌≤◌, length, IfOk, IfSome, IsNone, IsTrue, Err};
-ghost use Rattle.cache_types.specs.Driver.{blob_of, IsDriverText, IsDriver, Fronts, HasNoFront};
+ghost use Rattle.cache_types.specs.Driver.{DriverKeys, blob_of, IsDriverText, IsDriver, Fronts, HasNoFront};
 
 use crate::bytes::Bytes;
 use crate::front::front_of;
@@ -103,9 +103,11 @@ impl Driver {
     }
 
     /// The driver whose blob stands in front of the bytes, and None exactly where no driver's does. There
-    /// is at most one. It keeps the memory of the bytes and takes none.
+    /// is at most one. Its id and its GPU name needn't be UTF-8. It keeps the memory of the bytes and
+    /// takes none.
     pub fn of_front(bytes: Bytes) -> Option<Driver>
         ensures found { IfSome result (λ d. Fronts bytes d) }
+        ensures only { (d : DriverKeys) → Fronts bytes d → result ≡ Some d }
         ensures none { IsNone result ↔ HasNoFront bytes }
     {
         let front = front_of(bytes.as_slice())?;

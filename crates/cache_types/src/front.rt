@@ -65,6 +65,7 @@ pub fn front_of(bytes: &[u8]) -> Option<Front>
 /// driver's blob stands there. Takes no memory.
 pub fn front_len(bytes: &[u8]) -> Option<u64>
     ensures found { IfSome result (λ n. (d : DriverKeys) × Fronts bytes.now d × (n ≡ length (blob_of d))) }
+    ensures only { (d : DriverKeys) → Fronts bytes.now d → result ≡ Some (length (blob_of d)) }
     ensures none { IsNone result ↔ HasNoFront bytes.now }
 {
     let front = front_of(bytes)?;

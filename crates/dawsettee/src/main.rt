@@ -5,44 +5,62 @@
 mod streams;
 
 use cache_main::{plan_of, run};
-use cache_types::Who;
+use cache_types::{NoMemory, Who};
 use host_files::{HostFiles, HostSink, HostSource};
+use path_names::Paths;
 use report_text::{Status, fault_text};
 use std::env;
 use std::io::ErrorKind;
 use std::process::ExitCode;
 
-/// The words of the command line after the program's name.
+/// The one seat of this process.
+const ME: Who = Who {
+    process: 0,
+    seat: 0,
+};
+
+/// The words of the command line after the program's name. Words that aren't UTF-8 have no reading.
 fn words_of(rt: &HostRuntime) -> Result<Vec<String>, Status> {
-    let mut words = Vec::new(rt.alloc());
     let args = match env::args(rt) {
         Ok(args) => args,
         Err(error) if error.kind() == ErrorKind::OutOfMemory => return Err(Status::NoMemory),
         Err(_) => return Err(Status::Usage),
     };
+    let mut words = Vec::new(rt.alloc());
     for word in args.skip(1) {
-        match words.push(word) {
-            Ok(()) => {}
-            Err(_) => return Err(Status::NoMemory),
+        if words.push(word).is_err() {
+            return Err(Status::NoMemory);
         }
     }
     Ok(words)
 }
 
-/// Does what the words ask for, over real files and streams.
-fn serve(rt: &HostRuntime) -> Result<Status, Status> {
-    let words = words_of(rt)?;
-    let paths = plan_of(rt.alloc(), &words, &[])?;
-    let me = Who {
-        process: 0,
-        seat: 0,
+/// Does what the words ask for, over the real files under these paths.
+fn serve(rt: &HostRuntime, words: &[String], paths: Paths) -> Result<Status, NoMemory> {
+    let alloc = rt.alloc();
+    let mut files = HostFiles::new(alloc, rt.clone()?, ME, paths)?;
+    let mut source = HostSource::new(alloc, rt.clone()?);
+    let mut out = HostSink::new(rt.clone()?);
+    Ok(run(alloc, words, &[], &mut files, &mut source, &mut out))
+}
+
+/// The status that the words of the command line lead to.
+fn status_of(rt: &HostRuntime) -> Status {
+    let Ok(_held) = streams::hold(rt) else {
+        return Status::FilesFault;
     };
-    let Ok(mut files) = HostFiles::new(rt.alloc(), rt, me, paths) else {
-        return Err(Status::NoMemory);
+    let words = match words_of(rt) {
+        Ok(words) => words,
+        Err(status) => return status,
     };
-    let mut source = HostSource::new(rt);
-    let mut out = HostSink::new(rt);
-    Ok(run(rt.alloc(), &words, &[], &mut files, &mut source, &mut out))
+    let paths = match plan_of(rt.alloc(), &words, &[]) {
+        Ok(paths) => paths,
+        Err(status) => return status,
+    };
+    match serve(rt, &words, paths) {
+        Ok(status) => status,
+        Err(_) => Status::NoMemory,
+    }
 }
 
 /// Says what is wrong in one line on standard error.
@@ -56,11 +74,7 @@ fn report(rt: &HostRuntime, status: &Status) {
 }
 
 fn main(rt: HostRuntime) -> ExitCode {
-    let _held = streams::hold(&rt);
-    let status = match serve(&rt) {
-        Ok(status) => status,
-        Err(status) => status,
-    };
+    let status = status_of(&rt);
     report(&rt, &status);
     ExitCode::from(status.code())
 }

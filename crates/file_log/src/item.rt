@@ -1,7 +1,10 @@
+ghost use Rattle.std.specs.Prelude.{◌≡◌, IfOk};
+
 use crate::call::Call;
 use crate::reply::Reply;
 use crate::ticket::Ticket;
-use cache_types::{Answer, Bytes, Driver, Key, Request, Store, Text, Who};
+use cache_types::{Answer, Bytes, Driver, Key, NoMemory, Request, Store, Text, Who};
+use std::alloc::Global;
 
 /// One thing that was done, by whom. A log is a list of them.
 #[derive(Debug, Drop)]
@@ -67,4 +70,100 @@ pub enum LogItem {
     SetList {
         text: Option<Bytes>,
     },
+}
+
+/// The same bytes in memory of their own, where there are any.
+fn copy_text(text: &Option<Bytes>) -> Result<Option<Bytes>, NoMemory>
+    ensures { IfOk result (λ t. t ≡ text.now) }
+{
+    match text {
+        None => Ok(None),
+        Some(text) => Ok(Some(text.copy()?)),
+    }
+}
+
+impl LogItem {
+    /// The same in memory of its own.
+    pub fn copy(&self, alloc: Global) -> Result<LogItem, NoMemory>
+        ensures { IfOk result (λ i. i ≡ self.now) }
+    {
+        match self {
+            LogItem::Queued {
+                process,
+                ticket,
+                request,
+            } => Ok(LogItem::Queued {
+                process: *process,
+                ticket: *ticket,
+                request: request.copy(alloc)?,
+            }),
+            LogItem::Taken { who, ticket } => Ok(LogItem::Taken {
+                who: *who,
+                ticket: *ticket,
+            }),
+            LogItem::Begin { who, request } => Ok(LogItem::Begin {
+                who: *who,
+                request: request.copy(alloc)?,
+            }),
+            LogItem::Did { who, call, reply } => {
+                let call = call.copy(alloc)?;
+                let reply = reply.copy()?;
+                Ok(LogItem::Did {
+                    who: *who,
+                    call,
+                    reply,
+                })
+            }
+            LogItem::Byte {
+                who,
+                slot,
+                at,
+                value,
+            } => Ok(LogItem::Byte {
+                who: *who,
+                slot: *slot,
+                at: *at,
+                value: *value,
+            }),
+            LogItem::Failed { who, memory } => Ok(LogItem::Failed {
+                who: *who,
+                memory: *memory,
+            }),
+            LogItem::Evict {
+                who,
+                store,
+                driver,
+                key,
+            } => Ok(LogItem::Evict {
+                who: *who,
+                store: *store,
+                driver: driver.copy()?,
+                key: *key,
+            }),
+            LogItem::End { who, answer } => Ok(LogItem::End {
+                who: *who,
+                answer: answer.copy(alloc)?,
+            }),
+            LogItem::Stop { process } => Ok(LogItem::Stop { process: *process }),
+            LogItem::Install {
+                root,
+                name,
+                main,
+                index,
+            } => {
+                let name = name.copy()?;
+                let main = main.copy()?;
+                let index = index.copy()?;
+                Ok(LogItem::Install {
+                    root: *root,
+                    name,
+                    main,
+                    index,
+                })
+            }
+            LogItem::SetList { text } => Ok(LogItem::SetList {
+                text: copy_text(text)?,
+            }),
+        }
+    }
 }

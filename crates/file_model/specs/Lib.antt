@@ -11,3 +11,4 @@ pub mod Following
 pub mod Starts
 pub mod Worlds
 pub mod Seeing
+pub mod Steps

@@ -9,8 +9,10 @@ mod operations;
 mod parts;
 mod piece;
 mod seen;
+mod step;
 mod tables;
 mod world;
 
 pub use seen::Seen;
+pub use step::{Fate, Progress};
 pub use world::World;

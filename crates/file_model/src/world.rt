@@ -327,6 +327,18 @@ impl World {
         }
     }
 
+    /// Whether an operation of a seat is open. Takes no memory.
+    pub(crate) fn is_inside(&self, who: Who) -> bool
+        ensures { result ≡ (course_of who self.now.past.log).inside }
+    {
+        operation_of(&self.operations, who).is_some()
+    }
+
+    /// The allocator of all that the world keeps.
+    pub(crate) fn alloc(&self) -> Global {
+        self.alloc
+    }
+
     /// Which slots of a seat are filled.
     fn filled(&self, who: Who) -> [bool; 8]
         ensures { (at : ℕ) → at < 8 → get_or result at false ≡ is_some ((disk_of self.now.past).slots who at) }

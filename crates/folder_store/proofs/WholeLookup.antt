@@ -11,7 +11,7 @@ use Rattle.file_log.specs.declared.item.LogItem.{LogItem}
 use Rattle.file_log.specs.declared.item.LogItem.TheVariants.{Begin, End}
 use Rattle.file_log.specs.Legal.{Legal}
 use Rattle.file_log.specs.Log.{History, own}
-use Rattle.file_log.specs.Operation.{LeavesAll, NoneFailed, is_fault}
+use Rattle.file_log.specs.Operation.{LeavesAll, is_fault}
 use Rattle.file_log.specs.State.{State, after, state_of}
 use Rattle.file_log.specs.Told.{Grows}
 use Rattle.file_log.proofs.All.{none_keeps}
@@ -19,7 +19,7 @@ use Rattle.files_api.specs.Drive.{items_of_all, IsEndOf, Refused, Unmade, Operat
 use Rattle.std.proofs.lemmas.List.Folds.{list_any-append}
 use Rattle.folder_store.specs.declared.get.FolderGet.{FolderGet}
 use Rattle.folder_store.specs.declared.get.Phase.{Phase}
-use Rattle.folder_store.specs.Holds.{FolderHolds, Finds}
+use Rattle.folder_store.specs.Holds.{FolderHolds, FindsOrFails}
 use Rattle.folder_store.specs.Lookup.{IsLookupAnswer, LookedUp}
 use Rattle.folder_store.specs.Phases.{asks, asked, Fed, left_in, IsNew}
 use Rattle.folder_store.proofs.Calls.{looks, all_within, calls_at_most}
@@ -35,10 +35,6 @@ Grows-map (Some h) new P Q g f = (g.0, g.1, f h g.0 g.2)
 Legal-front : (s : State) (xs ys : List LogItem) → Legal s (xs ++ ys) → Legal s xs
 Legal-front s [] ys legal = tt
 Legal-front s (x ∷ xs) ys legal = (legal.0, Legal-front (after s x) xs ys legal.1)
-
-NoneFailed-front : (xs ys : List LogItem) → NoneFailed (xs ++ ys) → NoneFailed xs
-NoneFailed-front [] ys none = tt
-NoneFailed-front (x ∷ xs) ys none = (none.0, NoneFailed-front xs ys none.1)
 
 module _ (me : Who) (request : Request) (root : ℕ) (driver : DriverKeys) (key : Key) (old new : Option History) (before now : ℕ) (answer : Answer) where
   -- ---- an operation that made no call
@@ -58,7 +54,7 @@ module _ (me : Who) (request : Request) (root : ℕ) (driver : DriverKeys) (key 
     cause = λ e. absurd (no_fault r.answer_is e);
     told = Grows-map old new _ _ r.told (λ h news o. record {
       operation = inl (o.own_items, r.answer_is);
-      finds = λ alone none. rw r.answer_is tt;
+      finds = λ alone. rw r.answer_is tt;
       still = all_as_own after (LeavesAll me) me (λ s item other mine. let clash : false ≡ true = sym other ∙ mine in absurd cc) (state_of h) news (none_keeps after (LeavesAll me) me (state_of h) news o.own_items);
       fault = never (own me news) r.answer_is (ap any_fault o.own_items);
     });
@@ -70,7 +66,7 @@ module _ (me : Who) (request : Request) (root : ℕ) (driver : DriverKeys) (key 
     cause = λ e. absurd (no_fault r.answer_is e);
     told = Grows-map old new _ _ r.told (λ h news o. record {
       operation = inr (record { inner = []; whole = o.owns.own_items ∙ ap (λ (a : Answer). Begin me request ∷ End me a ∷ []) (sym r.answer_is); within = tt; few = omega arith });
-      finds = λ alone none. rw r.answer_is tt;
+      finds = λ alone. rw r.answer_is tt;
       still = nothing_stays me request news (state_of h) o.owns.own_items o.owns.legal o.owns.goes_on;
       fault = never (own me news) r.answer_is (ap any_fault o.owns.own_items);
     });
@@ -91,7 +87,7 @@ module _ (me : Who) (request : Request) (root : ℕ) (driver : DriverKeys) (key 
   fault_told given (inl e) f = e ∙ f
   fault_told given (inr lack) f = absurd (lack.1 (subst IsSmall (sym f) tt))
 
-  end_finds : (given : Answer) (Held : List ℕ → Type 0) → IsEndOf given answer → Finds Held given → Finds Held answer
+  end_finds : (given : Answer) (Held : List ℕ → Type 0) → IsEndOf given answer → FindsOrFails Held given → FindsOrFails Held answer
   end_finds given Held (inl e) finds = rw e finds
   end_finds given Held (inr lack) finds = rw lack.0 tt
 
@@ -115,7 +111,7 @@ module _ (me : Who) (request : Request) (root : ℕ) (driver : DriverKeys) (key 
         cause = λ e. r.counts.rose (out.failed (fault_given r.given r.answer_is e));
         told = Grows-map old new _ _ r.told (λ h news o. record {
           operation = inr (record { inner = inner; whole = o.owns.own_items; within = all_within me root r.first r.last r.exchanges r.given begun.root_is r.runs; few = calls_at_most me r.first r.last r.exchanges r.given 4 r.runs few });
-          finds = λ alone none. end_finds r.given _ r.answer_is (found r begun fits h news (sym alone ∙ o.owns.own_items) o.owns.legal none);
+          finds = λ alone. end_finds r.given _ r.answer_is (found r begun fits h news (sym alone ∙ o.owns.own_items) o.owns.legal);
           still = looking_stays asks asked Fed me looks r.first request answer news (state_of h) r.exchanges r.given r.last r.runs r.answer_is o.owns.own_items o.owns.legal o.owns.goes_on;
           fault =
               let same : any_fault (own me news) ≡ any_fault inner = ap any_fault o.owns.own_items ∙ any_inside inner in
@@ -124,17 +120,16 @@ module _ (me : Who) (request : Request) (root : ℕ) (driver : DriverKeys) (key 
       }
     where
       found : (r : Operated asks asked Fed (λ m. left_in m.phase) IsMade me request old new before now answer) → IsNew root driver key r.first → IsDriver driver → (h : History) (news : List LogItem)
-          → news ≡ Begin me request ∷ (items_of_all r.exchanges ++ End me answer ∷ []) → Legal (state_of h) news → NoneFailed news → Finds (FolderHolds (state_of h).disk root driver key) r.given
-      found r begun fits h news whole legal none =
+          → news ≡ Begin me request ∷ (items_of_all r.exchanges ++ End me answer ∷ []) → Legal (state_of h) news → FindsOrFails (FolderHolds (state_of h).disk root driver key) r.given
+      found r begun fits h news whole legal =
           let inner = items_of_all r.exchanges in
           let tail : List LogItem = End me answer ∷ [] in
           let legal' = subst (Legal (state_of h)) whole legal in
-          let none' = subst NoneFailed whole none in
           let s = after (state_of h) (Begin me request) in
-          let here = finding me s r.first r.last r.exchanges r.given (subst IsDriver (sym begun.driver_is) fits) begun.opening r.runs (Legal-front s inner tail legal'.1) (NoneFailed-front inner tail none'.1) in
-          let at_root = subst (λ (x : ℕ). Finds (FolderHolds s.disk x r.first.driver r.first.key) r.given) begun.root_is here in
-          let at_driver = subst (λ (x : DriverKeys). Finds (FolderHolds s.disk root x r.first.key) r.given) begun.driver_is at_root in
-          subst (λ (x : Key). Finds (FolderHolds s.disk root driver x) r.given) begun.key_is at_driver
+          let here = finding me s r.first r.last r.exchanges r.given (subst IsDriver (sym begun.driver_is) fits) begun.opening r.runs (Legal-front s inner tail legal'.1) in
+          let at_root = subst (λ (x : ℕ). FindsOrFails (FolderHolds s.disk x r.first.driver r.first.key) r.given) begun.root_is here in
+          let at_driver = subst (λ (x : DriverKeys). FindsOrFails (FolderHolds s.disk root x r.first.key) r.given) begun.driver_is at_root in
+          subst (λ (x : Key). FindsOrFails (FolderHolds s.disk root driver x) r.given) begun.key_is at_driver
 
   -- However it ended, it did what a lookup does.
   pub looked_up : (IsMade : FolderGet → Type 0) → ((m : FolderGet) → IsMade m → IsNew root driver key m) → IsDriver driver

@@ -1,7 +1,7 @@
 -- Which blob a folder store holds, and what a lookup of it answers.
 use Rattle.std.specs.Prelude.{ℕ, List, Option, Some, None}
 use Rattle.cache_types.specs.declared.answer.Answer.{Answer}
-use Rattle.cache_types.specs.declared.answer.Answer.TheVariants.{Hit, Miss, NoMemory}
+use Rattle.cache_types.specs.declared.answer.Answer.TheVariants.{Hit, Miss, FilesFault, NoMemory}
 use Rattle.cache_types.specs.declared.key.Key.{Key}
 use Rattle.cache_types.specs.declared.name.Name.TheVariants.{Entry}
 use Rattle.cache_types.specs.Driver.{DriverKeys}
@@ -23,3 +23,8 @@ Finds Held (Hit blob) = Held blob
 Finds Held Miss = (blob : List ℕ) → Held blob → ⊥
 Finds Held NoMemory = Unit {0}
 Finds Held answer = ⊥
+
+-- the same of a lookup whose calls may fail: then the answer is a fault
+abbrev pub FindsOrFails : (List ℕ → Type 0) → Answer → Type 0
+FindsOrFails Held FilesFault = Unit {0}
+FindsOrFails Held answer = Finds Held answer

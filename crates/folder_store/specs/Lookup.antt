@@ -10,10 +10,10 @@ use Rattle.cache_types.specs.Driver.{DriverKeys}
 use Rattle.file_log.specs.declared.item.LogItem.{LogItem}
 use Rattle.file_log.specs.Along.{All}
 use Rattle.file_log.specs.Log.{History, own}
-use Rattle.file_log.specs.Operation.{IsOperation, LeavesAll, NoneFailed, is_fault}
+use Rattle.file_log.specs.Operation.{IsOperation, LeavesAll, is_fault}
 use Rattle.file_log.specs.State.{after, state_of, disk_of}
 use Rattle.file_log.specs.Told.{Grows, Rose}
-use Rattle.folder_store.specs.Holds.{FolderHolds, Finds}
+use Rattle.folder_store.specs.Holds.{FolderHolds, FindsOrFails}
 
 -- an answer that a lookup ends with
 abbrev pub IsLookupAnswer : Answer → Type 0
@@ -27,8 +27,8 @@ IsLookupAnswer answer = ⊥
 pub record LooksUp (me : Who) (request : Request) (root : ℕ) (driver : DriverKeys) (key : Key) (answer : Answer) (h : History) (news : List LogItem) : Type 0 where
   -- nothing was begun for want of memory, or its own items are one operation of at most four calls in this root
   pub operation : ((own me news ≡ []) × (answer ≡ NoMemory)) ⊎ IsOperation me request root 4 answer (own me news)
-  -- where all new items are its own and no call failed, the answer is what the store held before
-  pub finds : own me news ≡ news → NoneFailed news → Finds (FolderHolds (disk_of h) root driver key) answer
+  -- where all new items are its own, the answer is what the store held before, or that a call failed
+  pub finds : own me news ≡ news → FindsOrFails (FolderHolds (disk_of h) root driver key) answer
   -- its own items change no name and no file, whatever stands between them
   pub still : All after (LeavesAll me) (state_of h) news
   -- it answers a fault exactly where one of its calls failed other than for want of memory

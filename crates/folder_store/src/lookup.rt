@@ -51,26 +51,28 @@ mod tests {
         lookup.feed(reply);
     }
 
-    fn found(alloc: Global, item: &[u8]) -> Option<Bytes> {
+    fn answer_to(alloc: Global, file: &[u8]) -> Option<Answer> {
         let driver = Driver::new(alloc, "a", "b", 0).ok()?;
-        let bytes = Bytes::of(alloc, item).ok()?;
+        let bytes = Bytes::of(alloc, file).ok()?;
         let mut lookup = FolderGet::new(alloc, 7, driver, Key { bytes: [9; 20] });
         step(&mut lookup, Reply::Done);
-        step(&mut lookup, Reply::Number(item.len() as u64));
+        step(&mut lookup, Reply::Number(file.len() as u64));
         step(&mut lookup, Reply::Got(bytes));
         step(&mut lookup, Reply::Done);
         match lookup.next() {
-            Step::Done(Answer::Hit(blob)) => Some(blob),
-            _ => None,
+            Step::Done(answer) => Some(answer),
+            Step::Ask(_) => None,
         }
     }
 
-    // With memory a lookup of an item gives its blob.
+    // With memory a lookup finds an item, and misses another driver's.
     #[test]
-    fn an_item_is_found(rt: HostRuntime) {
-        match found(rt.alloc(), ITEM) {
-            Some(blob) => assert_eq!(rt; blob.as_slice(), b"shader".as_slice()),
-            None => assert!(rt; false),
+    fn a_file_is_read(rt: HostRuntime) {
+        match answer_to(rt.alloc(), ITEM) {
+            Some(Answer::Hit(blob)) => assert_eq!(rt; blob.as_slice(), b"shader".as_slice()),
+            _ => assert!(rt; false),
         }
+        let other = b"\x01b\0b\0\x08\0\0\0\0\0\0\0\0\0\0\0\0\x28\x9e\xf3\xff\x06\0\0\0shader";
+        assert!(rt; matches!(answer_to(rt.alloc(), other), Some(Answer::Miss)));
     }
 }

@@ -1,8 +1,8 @@
 -- The laws of items, for the crates above.
-use Rattle.std.proofs.Common.{◌≡◌, ℕ, ◌+◌, ◌*◌, ◌≤◌, List, [], ◌∷◌, ◌++◌, length, drop, Result, Ok, Err, refl, sym, ap, subst, ◌∙◌, arith, length-append}
+use Rattle.std.proofs.Common.{◌≡◌, ℕ, ◌+◌, ◌*◌, ◌≤◌, List, [], ◌++◌, length, drop, Result, Ok, Err, refl, sym, ap, subst, ◌∙◌, arith, length-append}
 use Rattle.std.specs.Result.{result_err}
 use Rattle.std.proofs.lemmas.List.{drop_at, append-nil}
-use Rattle.std.specs.Int.{w32, w64, to_le_bytes}
+use Rattle.std.specs.Int.{w32, to_le_bytes}
 use Rattle.cache_types.specs.declared.key.Key.{Key}
 use Rattle.cache_types.specs.declared.limits.TheConstants.{MAX_ITEM}
 use Rattle.cache_types.specs.declared.meta.Meta.{Meta}

@@ -1,3 +1,4 @@
 pub mod Item
 pub mod Reading
 pub mod Refusals
+pub mod Writing

@@ -1,10 +1,17 @@
 //! Items as bytes: a driver's keys blob, what is known of the blob's making, a checksum, a size and the
-//! blob itself. They are read from left to right, and the first field that is wrong is named.
+//! blob itself. They are read from left to right, and the first field that is wrong is named; what is
+//! written reads back.
 #![tactic(auto)]
 
+mod error;
 mod fields;
 mod item;
 mod refusal;
+#[cfg(test)]
+mod tests;
+mod writing;
 
+pub use error::ItemError;
 pub use item::{Item, check_item, read_blob, read_item};
 pub use refusal::ItemRefusal;
+pub use writing::{item_len, write_item};

@@ -94,6 +94,7 @@ tells me call reply w made fits makes mine legal goes seen =
       };
       goes_on = goes_on_then me h made mine goes;
       clock = refl;
+      alone = (made, refl, all_own me made mine);
     }
 
 -- nothing is told where a call makes no item

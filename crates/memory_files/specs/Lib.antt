@@ -4,3 +4,4 @@ pub mod Seats
 pub mod Failures
 pub mod Plans
 pub mod Files
+pub mod Lone

@@ -1,11 +1,12 @@
 -- What a log says of a seat, and what a call of the seat does to it.
-use Rattle.std.specs.Prelude.{◌≡◌, ◌&&◌, ℕ, nat_lt, Bool, false, Some, is_some}
+use Rattle.std.specs.Prelude.{◌≡◌, ◌&&◌, ℕ, nat_lt, Bool, false, List, Some, is_some}
 use Rattle.cache_types.specs.declared.seat.Who.{Who}
 use Rattle.file_log.specs.declared.call.Call.{Call}
 use Rattle.file_log.specs.declared.reply.Reply.{Reply}
 use Rattle.file_log.specs.Disk.{Disk}
 use Rattle.file_log.specs.Exchange.{Answers}
-use Rattle.file_log.specs.Log.{History}
+use Rattle.file_log.specs.declared.item.LogItem.{LogItem}
+use Rattle.file_log.specs.Log.{History, with_items, own}
 use Rattle.file_log.specs.Seat.{Seen, Course, IsSeen, seen_after, course_of}
 use Rattle.file_log.specs.State.{state_of, disk_of}
 use Rattle.file_log.specs.Told.{Called}
@@ -33,3 +34,5 @@ pub record Tells (me : Who) (call : Call) (reply : Reply) (old new : Held) : Typ
   pub called : Called me (seen_in me old.past).inside call reply (Some old.past) (Some new.past)
   pub goes_on : GoesOn me new.past
   pub clock : new.clock ≡ old.clock
+  -- no other seat has an item
+  pub alone : (made : List LogItem) × (new.past ≡ with_items old.past made) × (own me made ≡ made)

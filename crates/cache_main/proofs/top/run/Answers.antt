@@ -18,9 +18,10 @@ returns-clause-usage g c =
 pub returns-clause-bad_key : goal.returns-clause-bad_key
 returns-clause-bad_key g c =
     let found = lookup_of c.in-Some.found in
-    let printed = c.print.ensures (request_of found c.in-Ok.key) in
-    (λ e. absurd (no_bad_key (request_of (lookup_of c.in-Some.found) c.in-Ok.key) c.look_up-answer.result c.look_up-answer.ensures.done.kind c.print.result (g.K.Sink.written c.args.out.now) (g.K.Sink.written c.print.new.out) (g.K.Sink.faults c.args.out.now) (g.K.Sink.faults c.print.new.out) printed e),
-      λ bad. absurd (bad.2 (subst (λ (l : Lookup). IsKeyText l.key) (one_reading _ found bad.0 c.in-Some.ensures bad.1) (c.in-Ok.ensures.found.0 refl))))
+    let printed = c.print.ensures (request_of found c.in-Ok.key) in (
+      λ e. absurd (no_bad_key (request_of (lookup_of c.in-Some.found) c.in-Ok.key) c.look_up-answer.result c.look_up-answer.ensures.done.kind c.print.result (g.K.Sink.written c.args.out.now) (g.K.Sink.written c.print.new.out) (g.K.Sink.faults c.args.out.now) (g.K.Sink.faults c.print.new.out) printed e),
+      λ bad. absurd (bad.2 (subst (λ (l : Lookup). IsKeyText l.key) (one_reading _ found bad.0 c.in-Some.ensures bad.1) (c.in-Ok.ensures.found.0 refl))),
+    )
 
 pub returns-clause-refused : goal.returns-clause-refused
 returns-clause-refused g c =

@@ -1,0 +1,63 @@
+ghost use Rattle.std.specs.Prelude.{◌≡◌, ◌≤◌, length, IfOk};
+ghost use Rattle.files_api.specs.Streams.{HasFault};
+ghost use Rattle.files_api.specs.declared.took.Took.TheVariants.{Failed};
+
+use crate::fault::Fault;
+use crate::system::again_if_interrupted;
+use files_api::{Sink, Took};
+use std::io::Print;
+
+/// Standard output. What was written isn't told.
+#[derive(Drop)]
+pub struct HostSink<R: Print + Drop> {
+    rt: R,
+    faults: u64,
+}
+
+impl<R: Print + Drop> HostSink<R> {
+    /// The standard output of a program.
+    pub fn new(rt: R) -> HostSink<R> {
+        HostSink { rt, faults: 0 }
+    }
+
+    /// Writes what the system takes at once. Nothing of some bytes is a fault.
+    fn put(&self, bytes: &[u8]) -> Result<usize, Fault>
+        ensures some { IfOk result (λ n. 1 ≤ n) }
+        ensures within { IfOk result (λ n. n ≤ length bytes.now) }
+    {
+        for _ in 0..u64::MAX {
+            match self.rt.write_some(bytes) {
+                Ok(0) => return Err(Fault::Failed),
+                Ok(n) => return Ok(n),
+                Err(error) => again_if_interrupted(error)?,
+            }
+        }
+        Err(Fault::Failed)
+    }
+
+    fn fail(&mut self) -> Took
+        ensures failed { result ≡ Failed }
+        ensures cause { HasFault self.old.faults self.new.faults result }
+    {
+        self.faults = self.faults.saturating_add(1);
+        Took::Failed
+    }
+}
+
+impl<R: Print + Drop> Sink for HostSink<R> {
+    ghost use Rattle.std.specs.Prelude.{None};
+
+    ghost written = { λ _. None };
+
+    ghost faults = { λ s. s.faults };
+
+    fn write(&mut self, bytes: &[u8]) -> Took {
+        if bytes.is_empty() {
+            return Took::Some(0);
+        }
+        match self.put(bytes) {
+            Ok(n) => Took::Some(n as u64),
+            Err(_) => self.fail(),
+        }
+    }
+}
