@@ -2,3 +2,4 @@ mod Telling
 mod Calls
 mod Failures
 mod Planned
+mod Deciding

@@ -1,6 +1,7 @@
 pub mod Failing
 pub mod Streams
 pub mod Seats
+pub mod Allowed
 pub mod Failures
 pub mod Plans
 pub mod Files

@@ -2,6 +2,7 @@ ghost use Rattle.std.specs.Prelude.{◌≡◌, false};
 ghost use Rattle.file_log.specs.State.{state_of};
 
 use crate::acts::{answer, refuse};
+use crate::allowed::is_allowed;
 use crate::plan::{Fault, Plan};
 use cache_types::{NoMemory, Who};
 use file_log::{Call, Reply};
@@ -20,7 +21,7 @@ pub struct MemFiles {
 }
 
 impl MemFiles {
-    ghost use Rattle.std.specs.Prelude.{◌≡◌, ◌<◌, ℕ, Some, None, [], false, IfOk, is_some};
+    ghost use Rattle.std.specs.Prelude.{◌≡◌, ◌<◌, ◌↔◌, ℕ, Some, None, [], false, IfOk, IsTrue, is_some};
     ghost use Rattle.file_log.specs.Seat.{IsIdle, MayCall, IsServed, course_of};
     ghost use Rattle.file_log.specs.State.{disk_of};
     ghost use Rattle.file_log.specs.Told.{HasCause};
@@ -99,6 +100,13 @@ impl MemFiles {
         ensures history { ⟦<MemFiles as Files>⟧.history self ≡ Some result.past }
     {
         self.world
+    }
+
+    /// Whether the seat may make this call now.
+    pub fn may_make(&self, call: &Call) -> bool
+        ensures { IsTrue result ↔ (MayCall (⟦<MemFiles as Files>⟧.seen self.now) call.now × IsServed call.now) }
+    {
+        is_allowed(&self.world, self.me, call)
     }
 
     /// Makes a call, as [`Files::call`] does, and keeps to the plan: where a fault stands for the call it
