@@ -144,12 +144,6 @@ did_tells me call reply w one goes fits legal =
     tells me call reply w (items.Did me call reply ∷ []) a.0 (did_makes me course.inside call reply one a.1) (seat_self me, tt) (legal, tt) goes
     (subst (λ (c : Course). IsSeen (seen_on me (after_call d me call reply) c) (seen_after (seen_in me w.past) call reply)) (sym (either (same_seat me me) course)) (did_seen me d course call reply one a.1 legal.1.0))
 
--- a call that is no write and no Tell makes one item
-pub others_make_one : (call : Call) → ((note : Note) → call ≡ calls.Tell note → ⊥) → ((slot at : ℕ) (bytes : List ℕ) → call ≡ calls.WriteAt slot at bytes → ⊥) → MakesOne call
-others_make_one (calls.Tell note) a b = absurd (a note refl)
-others_make_one (calls.WriteAt slot at bytes) a b = absurd (b slot at bytes refl)
-others_make_one call a b = tt
-
 -- ---- notes
 
 note_own : (me : Who) (note : Note) → AreOwn me (item_of_note me note ∷ [])

@@ -131,6 +131,18 @@ module _ (me : Who) (call : Call) (k : ℕ) (w : Held) (may : MayFail call) (cal
   fails_tells memory reply mid new is f =
       ⊎_elim (told_tells memory reply new) (untold_tells reply new) (subst (λ (w : Held). Fails me memory reply w new) is f)
 
+-- a write of a part leaves the seat's operation as it was, and its process goes on
+pub still_calm : (me : Who) (call : Call) (k : ℕ) (w mid : Held) → (course_of me w.past.log).hurt ≡ false → mid ≡ told w (items_before me call k) → (course_of me mid.past.log).hurt ≡ false
+still_calm me call k w mid calm is =
+    ap (λ (w : Held). (course_of me w.past.log).hurt) is
+    ∙ ap (λ (c : Course). c.hurt) (course_then me w.past (items_before me call k))
+    ∙ (before_seen me (disk_of w.past) (course_of me w.past.log) call k).hurt
+    ∙ calm
+
+pub still_goes_on : (me : Who) (call : Call) (k : ℕ) (w mid : Held) → GoesOn me w.past → mid ≡ told w (items_before me call k) → GoesOn me mid.past
+still_goes_on me call k w mid goes is =
+    ap (λ (w : Held). (state_of w.past).halted me.process) is ∙ goes_on_then me w.past (items_before me call k) (before_own me call k) goes
+
 -- nothing was done before it
 pub fails_at_once : (me : Who) (call : Call) (w : Held) → MayFail call → IsCalm (course_of me w.past.log).hurt call → GoesOn me w.past → (memory : Bool) (reply : Reply) (new : Held) → Fails me memory reply w new → Tells me call reply w new
 fails_at_once me call w may calm goes memory reply new f =

@@ -1,3 +1,5 @@
 mod Telling
 mod Calls
 mod Failures
+mod Planned
+mod Deciding

@@ -3,9 +3,12 @@ ghost use Rattle.file_log.specs.declared.call.Call.TheVariants as calls;
 ghost use Rattle.file_log.specs.Exchange.{MayFail};
 ghost use Rattle.file_log.specs.Seat.{MayCall, IsServed};
 ghost use Rattle.file_model.specs.Calls.{MakesOne};
-ghost use Rattle.memory_files.specs.Failures.{Fails, failure as the_failure};
+ghost use Rattle.file_model.specs.Held.{told};
+ghost use Rattle.memory_files.specs.Failures.{Fails, IsFailure, failure as the_failure, bytes_before, items_of_part};
+ghost use Rattle.memory_files.specs.Plans.{is_counted, is_tell};
 ghost use Rattle.memory_files.specs.Seats.{Tells, GoesOn, seen_in};
 
+use crate::plan::Fault;
 use cache_types::{Bytes, Who};
 use file_log::{Call, Note, Reply};
 use file_model::World;
@@ -23,6 +26,37 @@ pub fn answer(world: &mut World, me: Who, call: Call) -> Reply
         Call::Close { slot } => close(world, me, slot),
         Call::WriteAt { slot, at, bytes } => write(world, me, slot, at, bytes),
         call => make(world, me, call),
+    }
+}
+
+/// Makes a call of a seat that is to fail. A Tell is refused memory, and a write writes a part before.
+pub fn refuse(world: &mut World, me: Who, call: Call, fault: Fault) -> Reply
+    requires may { MayCall (seen_in me world.old.past) call }
+    requires goes_on { GoesOn me world.old.past }
+    requires counted { is_counted call ≡ true }
+    requires tell { is_tell call ≡ true → fault.memory ≡ true }
+    ensures tells { Tells me call result world.old world.new }
+    ensures refused { IsFailure fault.memory result }
+{
+    match call {
+        Call::Tell(_) => Reply::NoMemory,
+        Call::WriteAt { slot, at, bytes } => write_part(world, me, slot, at, bytes, fault),
+        _ => fail(world, me, fault.memory),
+    }
+}
+
+fn write_part(world: &mut World, me: Who, slot: u8, at: u64, bytes: Bytes, fault: Fault) -> Reply
+    requires may { MayCall (seen_in me world.old.past) (calls.WriteAt slot at bytes) }
+    requires goes_on { GoesOn me world.old.past }
+    ensures tells { Tells me (calls.WriteAt slot at bytes) result world.old world.new }
+    ensures refused { IsFailure fault.memory result }
+    ensures part { result ≡ Reply.Failed → world.new ≡ told world.old (items_of_part me slot at (bytes_before fault.after bytes)) }
+{
+    let mut bytes = bytes;
+    bytes.cut(fault.after.min(bytes.len().saturating_sub(1)));
+    match world.write_run(me, slot, at, bytes) {
+        Ok(()) => fail(world, me, fault.memory),
+        Err(_) => fail(world, me, true),
     }
 }
 

@@ -2,13 +2,16 @@
 #![tactic(auto)]
 
 mod acts;
+mod allowed;
 mod failing;
 mod files;
 mod lone;
+mod plan;
 mod sink;
 mod source;
 
 pub use files::MemFiles;
 pub use lone::LoneFiles;
+pub use plan::Fault;
 pub use sink::MemSink;
 pub use source::MemSource;

@@ -39,8 +39,7 @@ impl LoneFiles {
     /// What is always known of such files: their log is told, and every item of it is the seat's own.
     pub fn lone(&self)
         ensures { IsLone (⟦<LoneFiles as Files>⟧.me self.now) (⟦<LoneFiles as Files>⟧.history self.now) }
-    {
-    }
+    {}
 }
 
 impl Files for LoneFiles {
