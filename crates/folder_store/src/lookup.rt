@@ -68,7 +68,8 @@ mod tests {
     // With memory a lookup finds an item, and misses another driver's.
     #[test]
     fn a_file_is_read(rt: HostRuntime) {
-        match answer_to(rt.alloc(), ITEM) {
+        let found = answer_to(rt.alloc(), ITEM);
+        match &found {
             Some(Answer::Hit(blob)) => assert_eq!(rt; blob.as_slice(), b"shader".as_slice()),
             _ => assert!(rt; false),
         }
