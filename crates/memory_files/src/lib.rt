@@ -9,6 +9,8 @@ mod lone;
 mod plan;
 mod sink;
 mod source;
+#[cfg(test)]
+mod tests;
 
 pub use files::MemFiles;
 pub use lone::LoneFiles;
