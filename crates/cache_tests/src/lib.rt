@@ -5,3 +5,18 @@
 mod premises;
 
 pub use premises::abc_is_found;
+
+#[cfg(test)]
+mod entries;
+#[cfg(test)]
+mod faults;
+#[cfg(test)]
+mod long_entries;
+#[cfg(test)]
+mod lookups;
+#[cfg(test)]
+mod real;
+#[cfg(test)]
+mod refusals;
+#[cfg(test)]
+mod sinks;
