@@ -1,1 +1,2 @@
 pub mod Abc
+pub mod TwoSeats
