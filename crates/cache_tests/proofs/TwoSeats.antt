@@ -53,26 +53,25 @@ slot_after = refl
 -- it can be
 pub legal : Legal (first []) log
 unfolding name_code
-legal =
+legal = (
+  (refl, (record { small = omega arith; empty = refl }, tt)),
+  (
+    (refl, (record { small = omega arith; empty = refl }, tt)),
     (
-      (refl, (record { small = omega arith; empty = refl }, tt)),
+      (refl, ((record { small = omega arith; filled = refl }, refl), tt)),
       (
-        (refl, (record { small = omega arith; empty = refl }, tt)),
+        (refl, ((record { small = omega arith; filled = refl }, refl), tt)),
         (
-          (refl, ((record { small = omega arith; filled = refl }, refl), tt)),
+          (refl, record { is_open = record { small = omega arith; filled = refl }; byte = omega arith }),
           (
             (refl, ((record { small = omega arith; filled = refl }, refl), tt)),
-            (
-              (refl, record { is_open = record { small = omega arith; filled = refl }; byte = omega arith }),
-              (
-                (refl, ((record { small = omega arith; filled = refl }, refl), tt)),
-                ((tt, tt), ((refl, ((record { small = omega arith; filled = refl }, refl), tt)), tt)),
-              ),
-            ),
+            ((tt, tt), ((refl, ((record { small = omega arith; filled = refl }, refl), tt)), tt)),
           ),
         ),
       ),
-    )
+    ),
+  ),
+)
 
 -- but a lock has one holder: with both tries answered Done it can't
 abbrev pub both : List LogItem

@@ -20,3 +20,5 @@ mod real;
 mod refusals;
 #[cfg(test)]
 mod sinks;
+#[cfg(test)]
+mod worlds;

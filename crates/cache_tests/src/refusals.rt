@@ -1,4 +1,4 @@
-use crate::entries::ABC;
+use crate::entries::{ABC, ABC_OF_E};
 use cache_types::Driver;
 use item_frame::{ItemRefusal, check_item};
 use std::test::Fail;
@@ -34,7 +34,7 @@ fn the_first_refusal_is_named(rt: HostRuntime) -> Result<(), Fail> {
     }
     assert_eq!(rt; check_item(&driver, &ABC[..25]), Err(ItemRefusal::Short));
     assert_eq!(rt;
-        check_item(&driver, &changed(&[(1, b'e')])[..25]),
+        check_item(&driver, &ABC_OF_E[..25]),
         Err(ItemRefusal::Short)
     );
     assert_eq!(rt; check_item(&driver, &ABC), Ok(()));
