@@ -1,3 +1,8 @@
+ghost use Rattle.std.specs.Prelude.{◌≡◌, ◌↔◌};
+ghost use Rattle.std.specs.declared.io.ErrorKind.TheVariants.{OutOfMemory};
+ghost use Rattle.std.specs.IoError.{error_kind};
+ghost use Rattle.host_files.specs.declared.fault.Fault.TheVariants.{NoMemory};
+
 use cache_types::NoMemory;
 use std::alloc::{AllocError, AllocFailed};
 use std::io;
@@ -13,6 +18,8 @@ pub enum Fault {
 }
 
 impl From<io::Error> for Fault {
+    ghost from_gives = { λ e f. (f ≡ NoMemory) ↔ (error_kind e ≡ OutOfMemory) };
+
     fn from(error: io::Error) -> Fault {
         match error.kind() {
             ErrorKind::OutOfMemory => Fault::NoMemory,
@@ -22,18 +29,24 @@ impl From<io::Error> for Fault {
 }
 
 impl From<NoMemory> for Fault {
+    ghost from_gives = { λ _ f. f ≡ NoMemory };
+
     fn from(_error: NoMemory) -> Fault {
         Fault::NoMemory
     }
 }
 
 impl From<AllocError> for Fault {
+    ghost from_gives = { λ _ f. f ≡ NoMemory };
+
     fn from(_error: AllocError) -> Fault {
         Fault::NoMemory
     }
 }
 
 impl<T: Drop> From<AllocFailed<T>> for Fault {
+    ghost from_gives = { λ _ f. f ≡ NoMemory };
+
     fn from(_refused: AllocFailed<T>) -> Fault {
         Fault::NoMemory
     }

@@ -11,8 +11,8 @@ use std::rt::{Clock, Files as RealFiles};
 use std::time::Duration;
 use std::{fs, io, thread};
 
-/// The system's places in a file are below this.
-const PAST_ALL: u64 = 1 << 63;
+/// No file has a byte at this place or past it, and the system refuses to read there.
+const PAST_ALL: u64 = (1 << 63) - 1;
 
 /// So many times a seat yields to others before it sleeps.
 const YIELDS: u32 = 4;

@@ -84,7 +84,7 @@ fn make<F: Files>(files: &mut F, name: Name, at: u64, bytes: Bytes) -> Reply
     };
     files.call(Call::ReadAt {
         slot: 3,
-        at: u64::MAX,
+        at: (1 << 63) - 2,
         n: u64::MAX,
     })
 }
