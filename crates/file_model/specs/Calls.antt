@@ -35,3 +35,8 @@ abbrev pub IsNoFailure : Reply → Type 0
 IsNoFailure replies.Failed = ⊥
 IsNoFailure replies.NoMemory = ⊥
 IsNoFailure reply = Unit {0}
+
+-- Now is answered by the clock's number
+abbrev pub TellsClock : Call → ℕ → Reply → Type 0
+TellsClock calls.Now clock reply = reply ≡ replies.Number clock
+TellsClock call clock reply = Unit {0}

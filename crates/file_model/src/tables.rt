@@ -8,7 +8,7 @@ ghost use Rattle.file_log.specs.Effect.{after_call, done_call};
 ghost use Rattle.file_log.specs.Legal.{IsReply, is_slot_held};
 ghost use Rattle.file_log.specs.Seat.{IsServed};
 ghost use Rattle.file_log.specs.Writing.{written};
-ghost use Rattle.file_model.specs.Calls.{SlotsFit, MakesOne};
+ghost use Rattle.file_model.specs.Calls.{SlotsFit, MakesOne, TellsClock};
 ghost use Rattle.file_model.specs.Find.{Once};
 ghost use Rattle.file_model.specs.Pieces.{items_of_run};
 ghost use Rattle.file_model.specs.Room.{closes, closes_by};
@@ -147,7 +147,8 @@ impl Tables {
         requires slots { SlotsFit (disk_at self.now) who call.now }
         requires one { MakesOne call.now }
         requires served { IsServed call.now }
-        ensures { IfOk result (λ reply. IsReply (disk_at self.now) who call.now reply) }
+        ensures reply { IfOk result (λ reply. IsReply (disk_at self.now) who call.now reply) }
+        ensures clock { IfOk result (λ reply. TellsClock call.now clock reply) }
     {
         match call {
             Call::OpenOld { slot: _, name } => match number_of(&self.names, name) {

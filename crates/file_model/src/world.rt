@@ -9,7 +9,7 @@ ghost use Rattle.file_log.specs.Exchange.{Answers, NoteMayLack, byte_items, item
 ghost use Rattle.file_log.specs.Legal.{Legal, IsLegal, IsOpen};
 ghost use Rattle.file_log.specs.Seat.{Course, IsFilled, SlotFits, IsServed, IsTold, course_of};
 ghost use Rattle.file_log.specs.State.{state_of, disk_of};
-ghost use Rattle.file_model.specs.Calls.{MakesOne, IsNoFailure, filled_of};
+ghost use Rattle.file_model.specs.Calls.{MakesOne, IsNoFailure, TellsClock, filled_of};
 ghost use Rattle.file_model.specs.Find.{Once};
 ghost use Rattle.file_model.specs.Held.{told, IsPlain};
 ghost use Rattle.file_model.specs.Operations.{course_in};
@@ -174,6 +174,7 @@ impl World {
         ensures ok { IfOk result (λ reply. self.new ≡ told self.old (items.Did who call reply ∷ [])) }
         ensures legal { IfOk result (λ reply. IsLegal (state_of self.old.past) (items.Did who call reply)) }
         ensures fits { IfOk result (λ reply. (inside : Bool) → Answers inside call reply × IsNoFailure reply) }
+        ensures clock { IfOk result (λ reply. TellsClock call self.old.clock reply) }
         ensures err { OnErr result (self.new ≡ self.old) }
     {
         call.known();

@@ -45,7 +45,7 @@ invariant_of-self-2 c =
     let alive : (state_of (past_of old)).halted who.process ≡ false = subst (λ (h : Held). (state_of h.past).halted who.process ≡ false) (sym c.self.view_is) c.requires.alive in
     let same : reply ≡ c.in_ok-reply.reply = c.in_ok-told.ensures in
     let is_reply : IsReply (disk_of (past_of old)) who call reply =
-    subst (λ (r : Reply). IsReply (disk_of (past_of old)) who call r) (sym same) (subst (λ (d : Disk). IsReply d who call c.in_ok-reply.reply) c.self.invariant.follows.disk c.in_ok-reply.ensures) in
+    subst (λ (r : Reply). IsReply (disk_of (past_of old)) who call r) (sym same) (subst (λ (d : Disk). IsReply d who call c.in_ok-reply.reply) c.self.invariant.follows.disk c.in_ok-reply.ensures.reply) in
     let legal : IsLegal (state_of (past_of old)) item = (alive, (is_reply, c.known.ensures)) in
     record {
       follows = follows_on (past_of old) (disk_at old.tables) (disk_at c.answer_in_room.new.tables) (is_among old.halted.items) (course_in old.operations.items) (course_in old.operations.items) (item ∷ []) c.put.new.self.items
@@ -55,4 +55,4 @@ invariant_of-self-2 c =
     }
 
 pub returns-clause-fits : goal.returns-clause-fits
-returns-clause-fits c = reply_fits (disk_at c.self.inside.tables) c.args.who c.args.call c.in_ok-reply.reply c.in_ok-reply.ensures
+returns-clause-fits c = reply_fits (disk_at c.self.inside.tables) c.args.who c.args.call c.in_ok-reply.reply c.in_ok-reply.ensures.reply
