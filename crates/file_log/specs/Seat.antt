@@ -48,12 +48,6 @@ IsCalm hurt call = hurt ≡ false
 abbrev pub MayCall : Seen → Call → Type 0
 MayCall seen call = SlotFits seen.filled call × IsCalm seen.hurt call
 
--- The one condition on calls that the forms of files can't serve yet: a listing of a folder. It is named by `call` of files
--- and `step` of a world alone.
-abbrev pub IsServed : Call → Type 0
-IsServed (calls.ListFolder root byte) = ⊥
-IsServed call = Unit {0}
-
 -- ---- what a call makes of it
 
 abbrev pub filled_by : Call → (ℕ → Bool) → ℕ → Bool

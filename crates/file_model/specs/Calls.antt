@@ -40,3 +40,9 @@ IsNoFailure reply = Unit {0}
 abbrev pub TellsClock : Call → ℕ → Reply → Type 0
 TellsClock calls.Now clock reply = reply ≡ replies.Number clock
 TellsClock call clock reply = Unit {0}
+
+-- the same of a call that may have failed or been refused memory
+abbrev pub AnswersClock : Call → ℕ → Reply → Type 0
+AnswersClock call clock replies.Failed = Unit {0}
+AnswersClock call clock replies.NoMemory = Unit {0}
+AnswersClock call clock reply = TellsClock call clock reply

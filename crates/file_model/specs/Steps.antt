@@ -14,6 +14,7 @@ use Rattle.file_model.specs.declared.step.Fate.{Fate}
 use Rattle.file_model.specs.declared.step.Fate.TheVariants as fates
 use Rattle.file_model.specs.declared.step.Progress.{Progress}
 use Rattle.file_model.specs.declared.step.Progress.TheVariants as progresses
+use Rattle.file_model.specs.Calls.{AnswersClock}
 use Rattle.file_model.specs.Held.{Held, told}
 
 -- ---- which item
@@ -80,3 +81,8 @@ pub record IsFated (fate : Fate) (inside : Bool) (call : Call) (progress : Progr
   pub only : progress ≡ progresses.Reply replies.Failed → fate ≡ fates.Fail
   pub fails : fate ≡ fates.Fail → MayFail call → HasFailed inside progress
   pub lacks : fate ≡ fates.NoMemory → MayLack inside call → progress ≡ progresses.Reply replies.NoMemory
+
+-- Now is answered by the clock
+abbrev pub StepTellsClock : Call → ℕ → Progress → Type 0
+StepTellsClock call clock progresses.More = Unit {0}
+StepTellsClock call clock (progresses.Reply reply) = AnswersClock call clock reply

@@ -4,7 +4,7 @@ ghost use Rattle.cache_types.specs.declared.seat.Who.{Who};
 ghost use Rattle.file_log.specs.declared.call.Call.{Call};
 ghost use Rattle.file_log.specs.declared.call.Call.TheVariants.{WriteAt, Tell};
 ghost use Rattle.file_log.specs.Exchange.{MayFail, NoteMayLack};
-ghost use Rattle.file_log.specs.Seat.{IsFilled, SlotFits, MayCall, IsServed, course_of};
+ghost use Rattle.file_log.specs.Seat.{IsFilled, SlotFits, MayCall, course_of};
 ghost use Rattle.file_log.specs.State.{state_of, disk_of};
 ghost use Rattle.file_model.specs.Calls.{filled_of, MakesOne};
 ghost use Rattle.file_model.specs.Seeing.{seen_of};
@@ -34,7 +34,7 @@ pub enum Progress {
 }
 
 impl World {
-    ghost use Rattle.file_model.specs.Steps.{Stepped, IsFated, IsPlace, HasFailed, is_inside};
+    ghost use Rattle.file_model.specs.Steps.{Stepped, StepTellsClock, IsFated, IsPlace, HasFailed, is_inside};
 
     /// Fails a call. Outside an operation that is refused where there is no memory for its item.
     fn step_fail(&mut self, who: Who) -> Progress
@@ -66,11 +66,11 @@ impl World {
     fn step_whole(&mut self, who: Who, call: &Call) -> Progress
         requires slots { SlotFits (filled_of (disk_of self.old.past) who) call.now }
         requires one { MakesOne call.now }
-        requires served { IsServed call.now }
         requires may_fail { MayFail call.now }
         requires alive { (state_of self.old.past).halted who.process ≡ false }
         requires calm { (course_of who self.old.past.log).hurt ≡ false }
         ensures stepped { (done : ℕ) → Stepped who call.now done result self.old self.new }
+        ensures clock { StepTellsClock call.now self.old.clock result }
         ensures unfailed { result ≡ Progress.Reply Reply.Failed → ⊥ }
     {
         let Ok(copy) = call.copy(self.alloc()) else {
@@ -140,10 +140,10 @@ impl World {
     /// A note is copied; [`tell`](World::tell) takes it as it is.
     pub fn step(&mut self, who: Who, call: &Call, done: u64, fate: Fate) -> Progress
         requires may { MayCall (seen_of who self.old.past) call.now }
-        requires served { IsServed call.now }
         requires place { IsPlace call.now done }
         requires alive { (state_of self.old.past).halted who.process ≡ false }
         ensures stepped { Stepped who call.now done result self.old self.new }
+        ensures clock { StepTellsClock call.now self.old.clock result }
         ensures fate { IsFated fate (is_inside who self.old) call.now result }
     {
         match call {
@@ -163,12 +163,12 @@ impl World {
     /// Makes one item of a call that can fail.
     fn step_made(&mut self, who: Who, call: &Call, done: u64) -> Progress
         requires slots { SlotFits (filled_of (disk_of self.old.past) who) call.now }
-        requires served { IsServed call.now }
         requires may_fail { MayFail call.now }
         requires place { IsPlace call.now done }
         requires alive { (state_of self.old.past).halted who.process ≡ false }
         requires calm { (course_of who self.old.past.log).hurt ≡ false }
         ensures stepped { Stepped who call.now done result self.old self.new }
+        ensures clock { StepTellsClock call.now self.old.clock result }
         ensures unfailed { result ≡ Progress.Reply Reply.Failed → ⊥ }
     {
         match call {

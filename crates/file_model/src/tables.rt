@@ -6,7 +6,6 @@ ghost use Rattle.file_log.specs.declared.reply.Reply.TheVariants.{Done, Held};
 ghost use Rattle.file_log.specs.Disk.{Disk, opening, bytes_in as the_bytes, rewritten, renamed, stopped, file_of};
 ghost use Rattle.file_log.specs.Effect.{after_call, done_call};
 ghost use Rattle.file_log.specs.Legal.{IsReply, is_slot_held};
-ghost use Rattle.file_log.specs.Seat.{IsServed};
 ghost use Rattle.file_log.specs.Writing.{written};
 ghost use Rattle.file_model.specs.Calls.{SlotsFit, MakesOne, TellsClock};
 ghost use Rattle.file_model.specs.Find.{Once};
@@ -146,7 +145,6 @@ impl Tables {
     ) -> Result<Reply, NoMemory>
         requires slots { SlotsFit (disk_at self.now) who call.now }
         requires one { MakesOne call.now }
-        requires served { IsServed call.now }
         ensures reply { IfOk result (λ reply. IsReply (disk_at self.now) who call.now reply) }
         ensures clock { IfOk result (λ reply. TellsClock call.now clock reply) }
     {

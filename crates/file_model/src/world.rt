@@ -7,7 +7,7 @@ ghost use Rattle.file_log.specs.Disk.{file_of};
 ghost use Rattle.file_log.specs.Effect.{after_call};
 ghost use Rattle.file_log.specs.Exchange.{Answers, NoteMayLack, byte_items, item_of_note};
 ghost use Rattle.file_log.specs.Legal.{Legal, IsLegal, IsOpen};
-ghost use Rattle.file_log.specs.Seat.{Course, IsFilled, SlotFits, IsServed, IsTold, course_of};
+ghost use Rattle.file_log.specs.Seat.{Course, IsFilled, SlotFits, IsTold, course_of};
 ghost use Rattle.file_log.specs.State.{state_of, disk_of};
 ghost use Rattle.file_model.specs.Calls.{MakesOne, IsNoFailure, TellsClock, filled_of};
 ghost use Rattle.file_model.specs.Find.{Once};
@@ -169,7 +169,6 @@ impl World {
     pub fn did(&mut self, who: Who, call: Call) -> Result<Reply, NoMemory>
         requires slots { SlotFits (filled_of (disk_of self.old.past) who) call }
         requires one { MakesOne call }
-        requires served { IsServed call }
         requires alive { (state_of self.old.past).halted who.process ≡ false }
         ensures ok { IfOk result (λ reply. self.new ≡ told self.old (items.Did who call reply ∷ [])) }
         ensures legal { IfOk result (λ reply. IsLegal (state_of self.old.past) (items.Did who call reply)) }

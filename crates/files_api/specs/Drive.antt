@@ -15,7 +15,7 @@ use Rattle.file_log.specs.declared.reply.Reply.{Reply}
 use Rattle.file_log.specs.declared.reply.Reply.TheVariants.{Failed}
 use Rattle.file_log.specs.Exchange.{Answers, Makes, Exchange}
 use Rattle.file_log.specs.Log.{History}
-use Rattle.file_log.specs.Seat.{Seen, MayCall, IsServed, seen_after}
+use Rattle.file_log.specs.Seat.{Seen, MayCall, seen_after}
 use Rattle.file_log.specs.Told.{Grows, Owns, OwnsToEnd, Rose}
 use Rattle.files_api.specs.declared.machine.Step.{Step}
 use Rattle.files_api.specs.declared.machine.Step.TheVariants.{Ask, Done}
@@ -34,7 +34,7 @@ IsWithin call = Unit {0}
 
 -- a call that may be made with these slots, or an answer once all are closed
 abbrev pub Allows : (ℕ → Bool) → Bool → Step → Type 0
-Allows slots hurt (Ask call) = MayCall (seen_in slots hurt) call × IsServed call × IsWithin call
+Allows slots hurt (Ask call) = MayCall (seen_in slots hurt) call × IsWithin call
 Allows slots hurt (Done answer) = (at : ℕ) → slots at ≡ false
 
 -- a reply changes the slots, covers a failure, and leaves a call less

@@ -2,7 +2,7 @@ ghost use Rattle.std.specs.Prelude.{◌≡◌, ℕ, Option};
 ghost use Rattle.cache_types.specs.declared.seat.Who.{Who};
 ghost use Rattle.file_log.specs.Exchange.{Answers};
 ghost use Rattle.file_log.specs.Log.{History};
-ghost use Rattle.file_log.specs.Seat.{Seen, MayCall, IsServed, IsSeen, seen_after};
+ghost use Rattle.file_log.specs.Seat.{Seen, MayCall, IsSeen, seen_after};
 ghost use Rattle.file_log.specs.Told.{Called, IsToldBy, HasCause};
 
 use file_log::{Call, Reply};
@@ -29,7 +29,6 @@ pub trait Files {
     /// Makes a call.
     fn call(&mut self, c: Call) -> Reply
         requires may { MayCall (seen self.old) c }
-        requires served { IsServed c }
         ensures fits { Answers (seen self.old).inside c result }
         ensures me { me self.new ≡ me self.old }
         ensures seen { IsSeen (seen self.new) (seen_after (seen self.old) c result) }

@@ -14,10 +14,10 @@ use Rattle.folder_store.specs.declared.get.FolderGet.{FolderGet}
 use Rattle.folder_store.specs.Phases.{asks, asks_in, asked, after_asking, Next, Fed, slots_in, hurt_in, left_in}
 
 allowed_in : (root : ℕ) (key : Key) (p : Phase) → Allows (slots_in p) (hurt_in p) (asks_in root key p)
-allowed_in root key Opening = (((omega arith, refl), refl), tt, tt)
-allowed_in root key Measuring = (((omega arith, refl), refl), tt, tt)
-allowed_in root key (Reading length) = (((omega arith, refl), refl), tt, tt)
-allowed_in root key (Closing answer) = (((omega arith, refl), tt), tt, tt)
+allowed_in root key Opening = (((omega arith, refl), refl), tt)
+allowed_in root key Measuring = (((omega arith, refl), refl), tt)
+allowed_in root key (Reading length) = (((omega arith, refl), refl), tt)
+allowed_in root key (Closing answer) = (((omega arith, refl), tt), tt)
 allowed_in root key (Ended answer) = λ at. refl
 allowed_in root key Spent = λ at. refl
 

@@ -37,7 +37,7 @@ impl<R: RealFiles<File = File> + Clock + Drop> HostFiles<R> {
     ghost use Rattle.std.specs.Prelude.{◌≡◌, Err, IfOk};
     ghost use Rattle.file_log.specs.declared.call.Call.TheVariants as calls;
     ghost use Rattle.file_log.specs.declared.reply.Reply.TheVariants as replies;
-    ghost use Rattle.file_log.specs.Seat.{IsFilled, IsEmpty, IsIdle, SlotFits, IsServed};
+    ghost use Rattle.file_log.specs.Seat.{IsFilled, IsEmpty, IsIdle, SlotFits};
     ghost use Rattle.path_names.specs.Paths.{HasPath, HasRoot, path_spelled};
     ghost use Rattle.host_files.specs.Calls.{HasPaths};
     ghost use Rattle.host_files.specs.Slots.{filled_in};
@@ -190,7 +190,6 @@ impl<R: RealFiles<File = File> + Clock + Drop> HostFiles<R> {
     /// Makes a call, if it can be done.
     fn tried(&mut self, c: &Call) -> Result<Reply, Fault>
         requires slots { SlotFits (filled_in self.old.seat.slots) c.now }
-        requires served { IsServed c.now }
         ensures went { Went self.old.seat c.now result self.new.seat }
         ensures outside { (HasPaths self.old.paths c.now → ⊥) → result ≡ Err faults.Failed }
     {
@@ -215,7 +214,6 @@ impl<R: RealFiles<File = File> + Clock + Drop> HostFiles<R> {
     /// Makes a call and answers it.
     fn made(&mut self, c: &Call) -> Reply
         requires slots { SlotFits (filled_in self.old.seat.slots) c.now }
-        requires served { IsServed c.now }
         ensures acts { Acts self.old.seat c.now result self.new.seat }
         ensures outside { (HasPaths self.old.paths c.now → ⊥) → result ≡ replies.Failed }
     {
@@ -230,7 +228,7 @@ impl<R: RealFiles<File = File> + Clock + Drop> Files for HostFiles<R> {
     ghost use Rattle.std.specs.Prelude.{◌≡◌, None};
     ghost use Rattle.file_log.specs.declared.reply.Reply.TheVariants.{Failed};
     ghost use Rattle.file_log.specs.Exchange.{Answers};
-    ghost use Rattle.file_log.specs.Seat.{MayCall, IsServed, IsSeen, seen_after};
+    ghost use Rattle.file_log.specs.Seat.{MayCall, IsSeen, seen_after};
     ghost use Rattle.file_log.specs.Told.{Called, HasCause};
     ghost use Rattle.host_files.specs.Calls.{HasPaths};
     ghost use Rattle.host_files.specs.Seats.{seen_of};
@@ -249,7 +247,6 @@ impl<R: RealFiles<File = File> + Clock + Drop> Files for HostFiles<R> {
     /// `Failed`.
     fn call(&mut self, c: Call) -> Reply
         requires may { MayCall (seen_of self.old.seat) c }
-        requires served { IsServed c }
         ensures fits { Answers self.old.seat.inside c result }
         ensures me { self.new.seat.me ≡ self.old.seat.me }
         ensures seen { IsSeen (seen_of self.new.seat) (seen_after (seen_of self.old.seat) c result) }

@@ -7,9 +7,9 @@ use Rattle.file_log.specs.declared.call.Call.{Call}
 use Rattle.file_log.specs.declared.call.Call.TheVariants as calls
 use Rattle.file_log.specs.Disk.{Disk}
 use Rattle.file_log.specs.Log.{History}
-use Rattle.file_log.specs.Seat.{IsFilled, IsEmpty, SlotFits, IsCalm, MayCall, IsServed, course_of}
+use Rattle.file_log.specs.Seat.{IsFilled, IsEmpty, SlotFits, IsCalm, MayCall, course_of}
 use Rattle.file_log.specs.State.{disk_of}
-use Rattle.memory_files.specs.Allowed.{is_empty, slots_fit, is_calm, is_served, is_allowed}
+use Rattle.memory_files.specs.Allowed.{is_empty, slots_fit, is_calm, is_allowed}
 use Rattle.memory_files.specs.Seats.{is_filled, seen_in}
 
 first_of_two : (a b : Bool) → (a && b) ≡ true → a ≡ true
@@ -68,18 +68,12 @@ calm_is hurt (calls.Close slot) = always
 calm_is hurt (calls.Tell note) = always
 calm_is hurt call = not_is hurt
 
-served_is : (call : Call) → (is_served call ≡ true) ↔ IsServed call
-served_is (calls.ListFolder root byte) = (λ e. absurd cc, λ p. absurd p)
-served_is call = always
-
-pub allowed_is : (me : Who) (h : History) (call : Call) → (is_allowed me h call ≡ true) ↔ (MayCall (seen_in me h) call × IsServed call)
+pub allowed_is : (me : Who) (h : History) (call : Call) → (is_allowed me h call ≡ true) ↔ MayCall (seen_in me h) call
 allowed_is me h call =
     let slots = slots_are (disk_of h) me call in
     let calm = calm_is (course_of me h.log).hurt call in
-    let served = served_is call in
     let a = slots_fit (disk_of h) me call in
-    let b = is_calm (course_of me h.log).hurt call in
-    let c = is_served call in (
-      λ e. let rest : (b && c) ≡ true = second_of_two a (b && c) e in ((slots.0 (first_of_two a (b && c) e), calm.0 (first_of_two b c rest)), served.0 (second_of_two b c rest)),
-      λ p. both a (b && c) (slots.1 p.0.0) (both b c (calm.1 p.0.1) (served.1 p.1)),
+    let b = is_calm (course_of me h.log).hurt call in (
+      λ e. (slots.0 (first_of_two a b e), calm.0 (second_of_two a b e)),
+      λ p. both a b (slots.1 p.0) (calm.1 p.1),
     )

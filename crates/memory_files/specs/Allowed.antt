@@ -31,9 +31,5 @@ is_calm hurt (calls.Close slot) = true
 is_calm hurt (calls.Tell note) = true
 is_calm hurt call = not hurt
 
-abbrev pub is_served : Call → Bool
-is_served (calls.ListFolder root byte) = false
-is_served call = true
-
 abbrev pub is_allowed : Who → History → Call → Bool
-is_allowed me h call = slots_fit (disk_of h) me call && (is_calm (course_of me h.log).hurt call && is_served call)
+is_allowed me h call = slots_fit (disk_of h) me call && is_calm (course_of me h.log).hurt call

@@ -1,8 +1,8 @@
 ghost use Rattle.std.specs.Prelude.{◌≡◌, false, true, nat_eq, length};
 ghost use Rattle.file_log.specs.declared.call.Call.TheVariants as calls;
 ghost use Rattle.file_log.specs.Exchange.{MayFail};
-ghost use Rattle.file_log.specs.Seat.{MayCall, IsServed};
-ghost use Rattle.file_model.specs.Calls.{MakesOne};
+ghost use Rattle.file_log.specs.Seat.{MayCall};
+ghost use Rattle.file_model.specs.Calls.{MakesOne, AnswersClock};
 ghost use Rattle.file_model.specs.Held.{told};
 ghost use Rattle.memory_files.specs.Failures.{Fails, IsFailure, failure as the_failure, bytes_before, items_of_part};
 ghost use Rattle.memory_files.specs.Plans.{is_counted, is_tell};
@@ -16,9 +16,9 @@ use file_model::World;
 /// Makes a call of a seat. None is answered Failed.
 pub fn answer(world: &mut World, me: Who, call: Call) -> Reply
     requires may { MayCall (seen_in me world.old.past) call }
-    requires served { IsServed call }
     requires goes_on { GoesOn me world.old.past }
     ensures tells { Tells me call result world.old world.new }
+    ensures clock { AnswersClock call world.old.clock result }
     ensures never_failed { result ≡ Reply.Failed → ⊥ }
 {
     match call {
@@ -102,9 +102,9 @@ fn make(world: &mut World, me: Who, call: Call) -> Reply
     requires may { MayCall (seen_in me world.old.past) call }
     requires one { MakesOne call }
     requires fails { MayFail call }
-    requires served { IsServed call }
     requires goes_on { GoesOn me world.old.past }
     ensures tells { Tells me call result world.old world.new }
+    ensures clock { AnswersClock call world.old.clock result }
     ensures never_failed { result ≡ Reply.Failed → ⊥ }
 {
     match world.did(me, call) {

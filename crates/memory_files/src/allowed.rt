@@ -1,7 +1,7 @@
 ghost use Rattle.std.specs.Prelude.{◌≡◌};
 ghost use Rattle.file_log.specs.Seat.{course_of};
 ghost use Rattle.file_log.specs.State.{disk_of};
-ghost use Rattle.memory_files.specs.Allowed.{is_empty as no_file, slots_fit as the_slots_fit, is_calm as the_calm, is_served as served, is_allowed as allowed};
+ghost use Rattle.memory_files.specs.Allowed.{is_empty as no_file, slots_fit as the_slots_fit, is_calm as the_calm, is_allowed as allowed};
 ghost use Rattle.memory_files.specs.Seats.{is_filled as some_file};
 
 use cache_types::Who;
@@ -12,7 +12,7 @@ use file_model::World;
 pub fn is_allowed(world: &World, me: Who, call: &Call) -> bool
     ensures { result ≡ allowed me world.now.past call.now }
 {
-    slots_fit(world, me, call) && is_calm(world.seen(me).hurt, call) && is_served(call)
+    slots_fit(world, me, call) && is_calm(world.seen(me).hurt, call)
 }
 
 fn slots_fit(world: &World, me: Who, call: &Call) -> bool
@@ -55,10 +55,4 @@ fn is_calm(hurt: bool, call: &Call) -> bool
         Call::Tell(_) => true,
         _ => !hurt,
     }
-}
-
-fn is_served(call: &Call) -> bool
-    ensures { result ≡ served call.now }
-{
-    !matches!(call, Call::ListFolder { root: _, byte: _ })
 }

@@ -22,9 +22,10 @@ pub struct MemFiles {
 
 impl MemFiles {
     ghost use Rattle.std.specs.Prelude.{◌≡◌, ◌<◌, ◌↔◌, ℕ, Some, None, [], false, IfOk, IsTrue, is_some};
-    ghost use Rattle.file_log.specs.Seat.{IsIdle, MayCall, IsServed, course_of};
+    ghost use Rattle.file_log.specs.Seat.{IsIdle, MayCall, course_of};
     ghost use Rattle.file_log.specs.State.{disk_of};
     ghost use Rattle.file_log.specs.Told.{HasCause};
+    ghost use Rattle.file_model.specs.Calls.{AnswersClock};
     ghost use Rattle.memory_files.specs.Failures.{IsFailure};
     ghost use Rattle.memory_files.specs.Files.{world_of, plan_of, IsCounted};
     ghost use Rattle.memory_files.specs.Plans.{fault_for, faults_after};
@@ -104,7 +105,7 @@ impl MemFiles {
 
     /// Whether the seat may make this call now.
     pub fn may_make(&self, call: &Call) -> bool
-        ensures { IsTrue result ↔ (MayCall (⟦<MemFiles as Files>⟧.seen self.now) call.now × IsServed call.now) }
+        ensures { IsTrue result ↔ MayCall (⟦<MemFiles as Files>⟧.seen self.now) call.now }
     {
         is_allowed(&self.world, self.me, call)
     }
@@ -113,9 +114,9 @@ impl MemFiles {
     /// fails or is refused memory, and no other call is answered Failed.
     pub fn make(&mut self, call: Call) -> Reply
         requires may { MayCall (⟦<MemFiles as Files>⟧.seen self.old) call }
-        requires served { IsServed call }
         ensures me { ⟦<MemFiles as Files>⟧.me self.new ≡ ⟦<MemFiles as Files>⟧.me self.old }
         ensures tells { Tells (⟦<MemFiles as Files>⟧.me self.old) call result (world_of self.old) (world_of self.new) }
+        ensures clock { AnswersClock call (world_of self.old).clock result }
         ensures cause { HasCause (⟦<MemFiles as Files>⟧.faults self.old) (⟦<MemFiles as Files>⟧.faults self.new) result }
         ensures faults { ⟦<MemFiles as Files>⟧.faults self.new ≡ faults_after (fault_for (plan_of self.old) call) (⟦<MemFiles as Files>⟧.faults self.old) }
         ensures planned { (fault : PlannedFault) → fault_for (plan_of self.old) call ≡ Some fault → IsFailure fault.memory result }
