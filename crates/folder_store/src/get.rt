@@ -73,7 +73,7 @@ fn answer_of(alloc: Global, driver: &Driver, bytes: &[u8]) -> Answer
 }
 
 /// The answer after a call that failed or was refused memory.
-fn fault_of(reply: &Reply) -> Answer
+pub(crate) fn fault_of(reply: &Reply) -> Answer
     ensures { result ≡ fault reply.now }
 {
     match reply {

@@ -3,6 +3,10 @@
 
 mod get;
 mod lookup;
+mod put;
+mod putting;
 
 pub use get::FolderGet;
 pub use lookup::folder_get;
+pub use put::FolderPut;
+pub use putting::folder_put;
