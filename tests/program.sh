@@ -1,6 +1,6 @@
 #!/bin/sh
-# Tries the built program in a fresh folder: the status and the bytes of lookups in a folder store, with
-# files, outputs and words as they can be. Stops at the first case that is wrong, and says which.
+# Tries the built program in a fresh folder: the status and the bytes of lookups and puts in a folder store,
+# with files, inputs, outputs and words as they can be. Stops at the first case that is wrong, and says which.
 set -u
 
 top=$(cd "$(dirname "$0")/.." && pwd -P) || exit 1
@@ -63,6 +63,17 @@ get() {
 # Looks a key up with its output and what it says of a fault in the files out and err.
 look() {
     get "$1" "$2" </dev/null >out 2>err
+    status=$?
+}
+
+# Puts standard input as driver `d`, GPU `g` into the folder store at a root, under a key.
+put() {
+    "$program" put --id=d --gpu=g --layout=folder "--root=$1" "$2"
+}
+
+# The same with its output and what it says of a fault in the files out and err.
+store() {
+    put "$1" "$2" >out 2>err
     status=$?
 }
 
@@ -188,6 +199,104 @@ holds "a hit with standard error closed" 0 abc ""
 get store $other </dev/null >out 2>&-
 status=$?
 holds "a miss with standard error closed" 1 "" ""
+
+# Puts.
+printf abc >abc
+: >empty
+stored="stored
+"
+store puts $k1 <abc
+holds "a put" 0 "$stored" ""
+abc_entry | cmp -s - "puts/$(entry_of $k1)" || wrong "a put: the entry has other bytes"
+[ ! -e "puts/$(entry_of $k1).tmp" ] || wrong "a put: its temporary file is left"
+look puts $k1
+holds "a hit of what was put" 0 abc ""
+printf xyz >xyz
+store puts $k1 <xyz
+holds "a put under a key that is there" 0 "kept
+" ""
+abc_entry | cmp -s - "puts/$(entry_of $k1)" || wrong "a put that was kept: the entry was changed"
+store puts $k2 <empty
+holds "a put of no bytes" 0 "$stored" ""
+empty_entry | cmp -s - "puts/$(entry_of $k2)" || wrong "a put of no bytes: the entry has other bytes"
+look puts $k2
+holds "a hit of no bytes that were put" 0 "" ""
+"$program" put --id=e --gpu=g --layout=folder --root=puts $k1 <xyz >out 2>err
+status=$?
+holds "a put over another driver's entry" 0 "$stored" ""
+look puts $k1
+holds "a miss for the driver whose entry went" 1 "" miss
+{ printf a; sleep 1; printf b; sleep 1; printf c; } | put puts $other >out 2>err
+status=$?
+holds "a put from a pipe that comes in pieces" 0 "$stored" ""
+abc_entry | cmp -s - "puts/$(entry_of $other)" || wrong "a put from a pipe: the entry has other bytes"
+rm -r puts
+store puts $k1 <&-
+holds "a put of a closed input" 5 "" "read fault"
+[ ! -e puts ] || wrong "a put of a closed input: a folder was made"
+store puts $k1 <store
+holds "a put of a folder" 5 "" "read fault"
+store entry $k1 <abc
+holds "a put below a plain file" 7 "" "files fault"
+mkdir -p "puts/$(entry_of $k1)"
+store puts $k1 <abc
+holds "a put where a folder stands" 7 "" "files fault"
+rm -r puts
+if [ -c /dev/full ]; then
+    put puts $k1 <abc >/dev/full 2>err
+    status=$?
+    : >out
+    holds "a put whose output is full" 6 "" "write fault"
+    look puts $k1
+    holds "a hit of a put whose output was full" 0 abc ""
+    rm -r puts
+fi
+
+# Small and large blobs, by the launcher.
+through() {
+    "$top/dawsettee" "$1" --id=d --gpu=g --layout=folder --root=puts $k1
+}
+for size in 5120 16777216; do
+    head -c $size /dev/urandom >blob
+    through put <blob >out 2>err
+    status=$?
+    holds "a put of $size bytes" 0 "$stored" ""
+    through get </dev/null >back 2>err || wrong "a lookup of $size bytes: it failed"
+    cmp -s blob back || wrong "a lookup of $size bytes: other bytes came back"
+    rm -r puts
+done
+printf x >>blob
+store puts $k1 <blob
+holds "a put of a byte more than there can be" 8 "" "too large: 16777217"
+[ ! -e puts ] || wrong "a put of a byte more than there can be: a folder was made"
+
+# A write that is cut short leaves the old entry whole.
+head -c 5120 blob >part
+mkdir -p "puts/$(entry_of $k1 | cut -c 1-2)"
+{ printf '\001e\000g\000\010'; abc_entry | tail -c +7; } >old
+for signal in ignored taken; do
+    cp old "puts/$(entry_of $k1)"
+    (
+        ulimit -f 1 || exit 99
+        [ $signal = taken ] || trap '' XFSZ
+        put puts $k1 <part >out 2>err
+    ) 2>/dev/null
+    status=$?
+    if [ $status -eq 99 ]; then
+        skip "a write that is cut short" "no limit can be set here"
+        break
+    fi
+    case $signal in
+    ignored) holds "a put that runs into a limit" 7 "" "files fault" ;;
+    taken) [ $status -gt 128 ] || wrong "a put that runs into a limit and its signal: status $status" ;;
+    esac
+    cmp -s old "puts/$(entry_of $k1)" || wrong "a write that is cut short, its signal $signal: the old entry was changed"
+    store puts $k1 <part
+    holds "a put after a write that was cut short, its signal $signal" 0 "$stored" ""
+    look puts $k1
+    cmp -s part out || wrong "a lookup after a write that was cut short: other bytes came back"
+done
+rm -r puts
 
 # Words.
 usage="usage: key, put, get, mark, has, list, verify, trim, settings, batch or drill"
