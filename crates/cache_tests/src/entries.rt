@@ -67,6 +67,12 @@ pub fn words_for(alloc: Global, id: &str, root: &str, key: &str) -> Result<Vec<S
     words_of(alloc, &texts)
 }
 
+/// The same words with `put`.
+pub fn put_words(alloc: Global, id: &str, root: &str, key: &str) -> Result<Vec<String>, NoMemory> {
+    let texts = ["put", id, "--gpu=g", "--layout=folder", root, key];
+    words_of(alloc, &texts)
+}
+
 /// These words.
 pub fn words_of(alloc: Global, texts: &[&str]) -> Result<Vec<String>, NoMemory> {
     let mut words = Vec::new(alloc);

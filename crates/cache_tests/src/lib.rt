@@ -15,10 +15,20 @@ mod long_entries;
 #[cfg(test)]
 mod lookups;
 #[cfg(test)]
+mod put_faults;
+#[cfg(test)]
+mod puts;
+#[cfg(test)]
 mod real;
 #[cfg(test)]
 mod refusals;
 #[cfg(test)]
 mod sinks;
+#[cfg(test)]
+mod sources;
+#[cfg(test)]
+mod stops;
+#[cfg(test)]
+mod turns;
 #[cfg(test)]
 mod worlds;

@@ -1,4 +1,4 @@
-use crate::entries::{ABC, K1_TEXT, ME, words_for};
+use crate::entries::{ABC, K1_TEXT, ME, put_words, words_for};
 use cache_main::{plan_of, run};
 use cache_types::{Bytes, NoMemory};
 use host_files::HostFiles;
@@ -7,18 +7,26 @@ use report_text::Status;
 use std::fs;
 use std::test::Fail;
 
-/// The status of a lookup in a root, over real files, and what it printed.
-fn look(rt: &HostRuntime, id: &str, root: &str) -> Result<(Status, MemSink), NoMemory> {
+/// The status of a call of the program over real files, with this input, and what it printed.
+fn call(
+    rt: &HostRuntime,
+    words: &[String],
+    input: &[u8],
+) -> Result<(Status, MemSink), NoMemory> {
     let alloc = rt.alloc();
-    let words = words_for(alloc, id, root, K1_TEXT)?;
-    let Ok(paths) = plan_of(alloc, &words, &[]) else {
+    let Ok(paths) = plan_of(alloc, words, &[]) else {
         return Err(NoMemory);
     };
     let mut files = HostFiles::new(alloc, rt.clone()?, ME, paths)?;
-    let mut source = MemSource::new(Bytes::new(alloc), Vec::new(alloc));
+    let mut source = MemSource::new(Bytes::of(alloc, input)?, Vec::new(alloc));
     let mut out = MemSink::new(alloc, Vec::new(alloc));
-    let status = run(alloc, &words, &[], &mut files, &mut source, &mut out);
+    let status = run(alloc, words, &[], &mut files, &mut source, &mut out);
     Ok((status, out))
+}
+
+/// The same of a lookup in a root.
+fn look(rt: &HostRuntime, id: &str, root: &str) -> Result<(Status, MemSink), NoMemory> {
+    call(rt, &words_for(rt.alloc(), id, root, K1_TEXT)?, &[])
 }
 
 /// An entry that lies in a real folder, whole and then without its last byte.
@@ -47,5 +55,31 @@ fn an_entry_in_a_real_folder_is_found(rt: HostRuntime) -> Result<(), Fail> {
     );
     fs::remove_dir(&rt, folder)?;
     fs::remove_dir(&rt, "an_entry_in_a_real_folder")?;
+    Ok(())
+}
+
+/// A temporary file of any length that a stopped put left does no harm: it is cut before it is written.
+#[test]
+fn a_temporary_file_that_was_left_is_cut(rt: HostRuntime) -> Result<(), Fail> {
+    let folder = "a_temporary_file_that_was_left/a9";
+    let entry = "a_temporary_file_that_was_left/a9/993e364706816aba3e25717850c26c9cd0d89d";
+    let temp = "a_temporary_file_that_was_left/a9/993e364706816aba3e25717850c26c9cd0d89d.tmp";
+    let words = put_words(
+        rt.alloc(),
+        "--id=d",
+        "--root=a_temporary_file_that_was_left",
+        K1_TEXT,
+    )?;
+    let left = [7; 40];
+    fs::create_dir_all(&rt, folder)?;
+    for len in 0..=left.len() {
+        fs::write(&rt, temp, &left[..len])?;
+        assert_eq!(rt; call(&rt, &words, b"abc")?.0, Status::Ok);
+        assert_eq!(rt; fs::read(&rt, entry)?.as_slice(), ABC.as_slice());
+        assert!(rt; fs::metadata(&rt, temp).is_err());
+        fs::remove_file(&rt, entry)?;
+    }
+    fs::remove_dir(&rt, folder)?;
+    fs::remove_dir(&rt, "a_temporary_file_that_was_left")?;
     Ok(())
 }

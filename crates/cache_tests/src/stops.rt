@@ -1,0 +1,54 @@
+use crate::entries::{K1, K1_TEXT, ME};
+use crate::turns::{hit, miss, put};
+use cache_types::{Name, Who};
+use memory_files::LoneFiles;
+use std::test::Fail;
+
+/// A seat of another process.
+const NEXT: Who = Who {
+    process: 1,
+    seat: 0,
+};
+
+/// The put of `abc` is stopped after each of its items. A lookup by another process then hits or misses, and
+/// the same put is stored where it missed and kept where it hit.
+#[test]
+fn a_put_that_was_stopped_does_no_harm(rt: HostRuntime) -> Result<(), Fail> {
+    let alloc = rt.alloc();
+    let mut files = LoneFiles::on_disk(alloc, ME, Vec::new(alloc))?;
+    let turn = put("--id=d", K1_TEXT, b"abc", b"stored\n");
+    assert!(rt; turn.take(alloc, &mut files)?);
+    let whole = files.world().log_len();
+    let mut hits = 0;
+    for n in 0..=whole {
+        let mut left = files.stopped_after(alloc, n, NEXT)?;
+        if miss("--id=d", K1_TEXT).take(alloc, &mut left)? {
+            assert!(rt; turn.take(alloc, &mut left)?, "stopped after {n}");
+        } else {
+            hits += 1;
+            assert!(rt; put("--id=d", K1_TEXT, b"abc", b"kept\n").take(alloc, &mut left)?, "stopped after {n}");
+        }
+        assert!(rt; hit("--id=d", K1_TEXT, b"abc").take(alloc, &mut left)?, "stopped after {n}");
+    }
+    // From the renaming on: after it, after the closing, and after the End.
+    assert_eq!(rt; hits, 3);
+    Ok(())
+}
+
+/// A process is stopped once it has written the whole temporary file of 29 bytes. Another's entry of 28 bytes
+/// has none of them.
+#[test]
+fn what_a_stopped_put_wrote_is_cut(rt: HostRuntime) -> Result<(), Fail> {
+    let alloc = rt.alloc();
+    let mut files = LoneFiles::on_disk(alloc, ME, Vec::new(alloc))?;
+    assert!(rt; put("--id=d", K1_TEXT, b"abc", b"stored\n").take(alloc, &mut files)?);
+    // Its Begin, two openings of the entry, one of the temporary file, and the cut, come before the bytes.
+    let mut left = files.stopped_after(alloc, 5 + 29, NEXT)?;
+    let temp = left.world().file(&Name::Temp { root: 0, key: K1 })?;
+    assert!(rt; temp.is_some_and(|temp| temp.len() == 29));
+    assert!(rt; put("--id=d", K1_TEXT, b"xy", b"stored\n").take(alloc, &mut left)?);
+    let entry = left.world().file(&Name::Entry { root: 0, key: K1 })?;
+    assert!(rt; entry.is_some_and(|entry| entry.len() == 28));
+    assert!(rt; hit("--id=d", K1_TEXT, b"xy").take(alloc, &mut left)?);
+    Ok(())
+}
