@@ -1,3 +1,5 @@
+pub mod AnyLaws
+pub mod Back
 pub mod FirstRefusal
 pub mod Fronts
 pub mod KeysLaws

@@ -3,6 +3,7 @@ ghost use Rattle.std.specs.Result.{result_err};
 ghost use Rattle.cache_types.specs.Driver.{blob_of};
 ghost use Rattle.item_frame.specs.Item.{IsItem, IsOnlyItem, Reads, ReadsAs};
 ghost use Rattle.item_frame.specs.Refusals.{first_refusal, IsRefused};
+ghost use Rattle.item_frame.specs.RoundTrip.{GivesBack};
 
 use crate::fields::{behind_front, behind_type, meta_of, payload};
 use crate::refusal::ItemRefusal;
@@ -44,8 +45,12 @@ pub fn check_item(driver: &Driver, bytes: &[u8]) -> Result<(), ItemRefusal>
 ///
 /// The first [`ItemRefusal`] that applies, as [`check_item`] gives it; `NoMemory`.
 pub fn read_item(alloc: Global, driver: &Driver, bytes: &[u8]) -> Result<Item, ItemRefusal>
+    // It is right exactly where the bytes are an item of the driver; else the first refusal that applies.
     ensures read { IfOk result (λ item. ReadsAs driver.now bytes.now item.meta item.blob) }
     ensures refused { IfErr result (λ refusal. IsRefused driver.now bytes.now refusal) }
+
+    // What was written reads back.
+    ensures back { GivesBack driver.now bytes.now result }
 {
     let body = behind_front(driver.blob(), bytes)?;
     let payload = behind_type(body)?;

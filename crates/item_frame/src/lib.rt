@@ -3,6 +3,7 @@
 //! written reads back.
 #![tactic(auto)]
 
+mod any;
 mod error;
 mod fields;
 mod item;
@@ -11,6 +12,7 @@ mod refusal;
 mod tests;
 mod writing;
 
+pub use any::{Owned, driver_of, read_any};
 pub use error::ItemError;
 pub use item::{Item, check_item, read_blob, read_item};
 pub use refusal::ItemRefusal;

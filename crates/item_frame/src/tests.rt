@@ -21,6 +21,21 @@ fn reads_an_item(rt: HostRuntime) -> Result<(), Fail> {
 }
 
 #[test]
+fn finds_the_driver_in_front(rt: HostRuntime) -> Result<(), Fail> {
+    assert_eq!(rt; driver_of(&ABC), Some(14));
+    Ok(())
+}
+
+#[test]
+fn reads_an_item_of_any_driver(rt: HostRuntime) -> Result<(), Fail> {
+    let owned = read_any(rt.alloc(), &ABC)?;
+    assert_eq!(rt; owned.driver.blob(), &ABC[..14]);
+    assert!(rt; matches!(owned.item.meta, Meta::Unknown));
+    assert_eq!(rt; owned.item.blob.as_slice(), b"abc".as_slice());
+    Ok(())
+}
+
+#[test]
 fn writes_an_item(rt: HostRuntime) -> Result<(), Fail> {
     let driver = Driver::new(rt.alloc(), "d", "g", 0)?;
     assert_eq!(rt; item_len(&driver, &Meta::Unknown, 3), 29);
