@@ -1,5 +1,11 @@
+pub mod Items
+pub mod Operations
 pub mod Calls
 pub mod Still
 pub mod Outcome
 pub mod Finding
 pub mod WholeLookup
+pub mod PutCalls
+pub mod PutOutcome
+pub mod PutOnDisk
+pub mod WholePut
