@@ -1,8 +1,9 @@
 ghost use Rattle.std.specs.Prelude.{◌≡◌, ◌≤◌};
 ghost use Rattle.file_log.specs.Seat.{IsIdle};
 ghost use Rattle.folder_store.specs.Lookup.{LookedUp};
-ghost use Rattle.op_union.specs.Requests.{IsBuilt, Belongs, store_of, kept_after, Operates};
+ghost use Rattle.op_union.specs.Requests.{IsBuilt, Belongs, store_of as the_store, kept_after, Operates};
 
+use crate::put::put_in_folder;
 use crate::state::SeatState;
 use cache_types::{Answer, Driver, Key, Request, RoPlan, Store};
 use files_api::Files;
@@ -36,6 +37,20 @@ fn look_up<F: Files>(
     folder_get(alloc, files, store.root, driver, key, request)
 }
 
+/// The store that a request speaks of, where it is one.
+fn store_of(request: &Request) -> Option<Store>
+    ensures { result ≡ the_store request.now }
+{
+    match request {
+        Request::Get { store, .. }
+        | Request::Put { store, .. }
+        | Request::Keys { store, .. }
+        | Request::Verify { store }
+        | Request::Trim { store, .. } => Some(*store),
+        Request::HasKey { .. } | Request::PutKey { .. } => None,
+    }
+}
+
 /// Does a request: tells its Begin, makes its calls, and tells its End.
 ///
 /// Afterwards every slot of the seat is empty, and the files may be used again, whatever the answer. Where
@@ -48,23 +63,23 @@ pub fn run_op<F: Files>(
 ) -> Answer
     requires idle { IsIdle (F.seen files.old) }
     requires built { IsBuilt request }
-    requires belongs { Belongs state.old.store (store_of request) }
+    requires belongs { Belongs state.old.store (the_store request) }
     ensures done { Operates (F.me files.old) request (F.history files.old) (F.history files.new) (F.faults files.old) (F.faults files.new) result }
     ensures idle { IsIdle (F.seen files.new) }
     ensures me { F.me files.new ≡ F.me files.old }
     ensures faults { F.faults files.old ≤ F.faults files.new }
-    ensures store { state.new.store ≡ kept_after state.old.store (store_of request) }
+    ensures store { state.new.store ≡ kept_after state.old.store (the_store request) }
 {
+    if let Some(store) = store_of(&request) {
+        state.store = Some(store);
+    }
     match request {
         Request::Get {
             store,
             driver,
             key,
             ro,
-        } => {
-            state.store = Some(store);
-            look_up(alloc, files, store, driver, key, ro)
-        }
-        _ => Answer::NoMemory,
+        } => look_up(alloc, files, store, driver, key, ro),
+        other => put_in_folder(alloc, files, other),
     }
 }
