@@ -1,4 +1,5 @@
 pub mod All
 pub mod Logs
 pub mod Stops
+pub mod Tidiness
 pub mod Writing
