@@ -3,3 +3,10 @@ pub mod Still
 pub mod Outcome
 pub mod Finding
 pub mod WholeLookup
+pub mod Slots
+pub mod PutDisks
+pub mod PutKnown
+pub mod PutRules
+pub mod PutSteps
+pub mod PutChanges
+pub mod PutWrites
