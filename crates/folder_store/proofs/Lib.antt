@@ -10,3 +10,4 @@ pub mod PutRules
 pub mod PutSteps
 pub mod PutChanges
 pub mod PutWrites
+pub mod PutWeave
