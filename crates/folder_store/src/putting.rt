@@ -11,7 +11,7 @@ use std::alloc::Global;
 ///
 /// The answer is `Kept` where the store holds a blob for the driver and key, `Stored` where it held none and
 /// now holds the item's, `FilesFault` exactly where a call failed, or `NoMemory`; after the last two the
-/// entry is as it was. In a log that is told, the own items are one operation of at most fifteen calls in
+/// entry is as it was. In a log that is told, the own items are one operation of at most fourteen calls in
 /// this root, or none where there was no memory to begin one. Afterwards no operation is open and every slot
 /// is empty, whatever the answer.
 pub fn folder_put<F: Files>(
