@@ -11,3 +11,4 @@ pub mod PutSteps
 pub mod PutChanges
 pub mod PutWrites
 pub mod PutWeave
+pub mod PutEnds

@@ -1,5 +1,5 @@
 -- Each call of a put but for its write: what it keeps, and what is known after it.
-use Rattle.std.proofs.Common.{◌≡◌, ◌≤◌, ◌<◌, ◌+◌, ◌-◌, ◌⊎◌, inl, inr, ℕ, Bool, true, false, cond, ltb, List, [], ◌∷◌, ◌++◌, length, take, drop, Option, Some, None, IsSome, refl, sym, ap, ◌∙◌, subst, arith}
+use Rattle.std.proofs.Common.{◌≡◌, ◌≤◌, ◌<◌, ◌+◌, ◌-◌, ◌⊎◌, inl, inr, ℕ, Bool, true, false, cond, ltb, List, [], ◌∷◌, ◌++◌, length, take, drop, Option, Some, None, IsSome, refl, sym, ap, ◌∙◌, subst, append_assoc, arith}
 use Rattle.std.specs.Prelude.{IsSomeAnd}
 use Rattle.std.proofs.Math.Seq.{take-length, take-append-add}
 use Rattle.std.proofs.lemmas.Bool.{false≢true, ltb-true}
@@ -65,12 +65,8 @@ part_fronts : (n : ℕ) (whole : List ℕ) (d : DriverKeys) → Fronts (take n w
 part_fronts n whole d f = record {
   driver = f.driver;
   rest = f.rest ++ drop n whole;
-  bytes_are = sym (take-append-drop n whole) ∙ ap (λ (l : List ℕ). l ++ drop n whole) f.bytes_are ∙ append_is (blob_of d) f.rest (drop n whole);
+  bytes_are = sym (take-append-drop n whole) ∙ ap (λ (l : List ℕ). l ++ drop n whole) f.bytes_are ∙ append_assoc (blob_of d) f.rest (drop n whole);
 }
-  where
-    append_is : (a b c : List ℕ) → (a ++ b) ++ c ≡ a ++ (b ++ c)
-    append_is [] b c = refl
-    append_is (x ∷ a) b c = ap (λ (l : List ℕ). x ∷ l) (append_is a b c)
 
 -- the longest driver's blob has 522 bytes
 fronts_part : (whole : List ℕ) (d : DriverKeys) → Fronts whole d → Fronts (take 522 whole) d
