@@ -3,12 +3,14 @@ pub mod Still
 pub mod Outcome
 pub mod Finding
 pub mod WholeLookup
-pub mod Slots
 pub mod PutDisks
 pub mod PutKnown
 pub mod PutRules
 pub mod PutSteps
+pub mod PutLooks
 pub mod PutChanges
 pub mod PutWrites
+pub mod PutMakes
 pub mod PutWeave
+pub mod PutPlaces
 pub mod PutEnds

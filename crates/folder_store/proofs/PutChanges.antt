@@ -1,5 +1,5 @@
 -- The calls of a put that tell an eviction, make, cut and rename the temporary file, and close both files.
-use Rattle.std.proofs.Common.{◌≡◌, ◌⊎◌, inl, inr, ℕ, Bool, true, false, List, [], ◌∷◌, ◌++◌, take, Option, Some, None, refl, sym, ap, ◌∙◌, subst}
+use Rattle.std.proofs.Common.{◌≡◌, inl, inr, ℕ, Bool, true, false, List, [], ◌∷◌, take, Option, Some, refl, sym, ◌∙◌, subst}
 use Rattle.cache_types.specs.Driver.{DriverKeys, Fronts}
 use Rattle.cache_types.specs.declared.answer.Answer.{Answer}
 use Rattle.cache_types.specs.declared.answer.Answer.TheVariants as answers
@@ -11,20 +11,17 @@ use Rattle.file_log.specs.declared.item.LogItem.{LogItem}
 use Rattle.file_log.specs.declared.item.LogItem.TheVariants.{Did, Evict}
 use Rattle.file_log.specs.declared.reply.Reply.{Reply}
 use Rattle.file_log.specs.declared.reply.Reply.TheVariants as replies
-use Rattle.file_log.specs.Disk.{Disk}
-use Rattle.file_log.specs.Effect.{applied}
 use Rattle.file_log.specs.Operation.{IsStill}
 use Rattle.file_log.proofs.All.{seat_self}
 use Rattle.file_log.proofs.Tidiness.{item_tidy}
-use Rattle.folder_store.specs.declared.put.PutPhase.{PutPhase}
 use Rattle.folder_store.specs.declared.put.PutPhase.TheVariants.{Evicting, Making, Cutting, Writing, Renaming, ClosingEntry, ClosingTemp, Ended}
 use Rattle.folder_store.specs.Entries.{folder_of, EvictIsOpen}
 use Rattle.folder_store.specs.Put.{TellsReplaced}
 use Rattle.folder_store.specs.PutPhases.{closing}
-use Rattle.folder_store.proofs.PutDisks.{HasTemp, making_apart, making_has, writing_apart, writing_has, renaming_is}
-use Rattle.folder_store.proofs.PutKnown.{Job, Place, step, put_item_on, Base, Going, HasWritten, Replaced, Answered, KnowsAt, Passes, base_on, going_on, answered_on, old}
+use Rattle.folder_store.proofs.PutDisks.{making_apart, making_has, writing_apart, writing_has, renaming_is}
+use Rattle.folder_store.proofs.PutKnown.{Job, Place, step, put_item_on, Base, Going, HasWritten, Replaced, KnowsAt, Passes, base_on, going_on, answered_on}
 use Rattle.folder_store.proofs.PutRules.{whole_then, whole_still, quiet, changed}
-use Rattle.folder_store.proofs.PutSteps.{AnswersIn, split, asks_at, MakesIn, Steps, into, closing_knows, looking_excused, going_fails}
+use Rattle.folder_store.proofs.PutSteps.{AnswersIn, split, asks_at, MakesIn, Steps, into, closing_knows, going_fails}
 
 module _ (j : Job) where
   abbrev entry_name : Name

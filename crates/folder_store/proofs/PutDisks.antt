@@ -1,5 +1,5 @@
 -- What a put's own items change on the disk: the temporary file, and by the rename the entry.
-use Rattle.std.proofs.Common.{◌≡◌, ◌⊎◌, inl, inr, ℕ, ◌+◌, ◌<◌, Bool, true, false, cond, nat_eq, ◌&&◌, List, [], ◌∷◌, Option, Some, None, refl, sym, ap, ◌∙◌, subst, arith}
+use Rattle.std.proofs.Common.{◌≡◌, inl, ℕ, ◌<◌, Bool, true, false, cond, nat_eq, List, [], Option, Some, None, refl, sym, ap, ◌∙◌, subst, arith}
 use Rattle.std.proofs.lemmas.Bool.{false≢true, eqb-true, eq-eqb}
 use Rattle.cache_types.specs.Names.{same_name, name_code}
 use Rattle.cache_types.specs.declared.key.Key.{Key}
@@ -12,7 +12,7 @@ use Rattle.file_log.specs.Operation.{IsStill}
 use Rattle.file_log.specs.Tidy.{IsTidy}
 use Rattle.file_log.proofs.All.{seat_self}
 use Rattle.folder_store.specs.Entries.{IsSpared}
-use Rattle.folder_store.specs.Put.{IsElsewhere, LeavesElsewhere}
+use Rattle.folder_store.specs.Put.{LeavesElsewhere}
 
 -- ---- names
 

@@ -1,11 +1,11 @@
 -- What a whole put does to the disk, alone and among others.
-use Rattle.std.proofs.Common.{◌≡◌, ◌≤◌, ◌+◌, ◌⊎◌, inl, inr, ℕ, Bool, true, false, cond, nat_eq, List, [], ◌∷◌, ◌++◌, length, drop, filter, fold, Option, Some, refl, sym, ap, ◌∙◌, subst, append_assoc, arith}
+use Rattle.std.proofs.Common.{◌≡◌, ℕ, Bool, true, false, nat_eq, List, [], ◌∷◌, ◌++◌, length, filter, fold, refl, sym, ap, ◌∙◌, subst, arith}
 use Rattle.std.specs.List.{AllByRecursion}
 use Rattle.std.proofs.lemmas.Bool.{false≢true, ne_eqb}
 use Rattle.std.proofs.lemmas.List.{append-nil}
 use Rattle.std.proofs.lemmas.List.Elements.{filter-append}
 use Rattle.std.proofs.lemmas.List.Sums.{fold-append}
-use Rattle.cache_types.specs.Driver.{DriverKeys, IsDriver, blob_of}
+use Rattle.cache_types.specs.Driver.{DriverKeys, IsDriver}
 use Rattle.cache_types.specs.declared.answer.Answer.{Answer}
 use Rattle.cache_types.specs.declared.key.Key.{Key}
 use Rattle.cache_types.specs.declared.name.Name.TheVariants.{Entry}
@@ -20,10 +20,10 @@ use Rattle.file_log.specs.Along.{All, Keeps}
 use Rattle.file_log.specs.Disk.{Disk, file_of}
 use Rattle.file_log.specs.Effect.{applied}
 use Rattle.file_log.specs.Exchange.{Exchange}
-use Rattle.file_log.specs.Legal.{IsLegal, Legal}
+use Rattle.file_log.specs.Legal.{Legal}
 use Rattle.file_log.specs.Log.{History, with_items, is_own, own}
 use Rattle.file_log.specs.Operation.{IsWithinRoot}
-use Rattle.file_log.specs.State.{State, first, after, state_of, disk_of}
+use Rattle.file_log.specs.State.{State, after, state_of, disk_of}
 use Rattle.file_log.specs.Told.{OwnsToEnd}
 use Rattle.file_log.proofs.All.{seat_self}
 use Rattle.file_log.proofs.Tidiness.{tidy}
@@ -34,8 +34,9 @@ use Rattle.folder_store.specs.declared.put.FolderPut.{FolderPut}
 use Rattle.folder_store.specs.Entries.{folder_of, with_item, EntriesAreWhole, IsWholeAfter, EvictIsOpen, ReplacesTold, IsSpared, OthersSpare}
 use Rattle.folder_store.specs.Put.{AsksPut, blob_in, Leaves, LeavesElsewhere, TellsEvicts, PutsAlone, is_evict}
 use Rattle.folder_store.specs.PutPhases.{IsNewPut, asks_put, asked_put, FedPut}
-use Rattle.folder_store.proofs.PutKnown.{Job, Place, step, base_after, told_after}
+use Rattle.folder_store.proofs.PutKnown.{Job, Place, step}
 use Rattle.folder_store.proofs.PutRules.{AreWhole, Replaces, IsRight}
+use Rattle.folder_store.proofs.PutPlaces.{place_of, IsAt, state_then, at_next, states, all_at, AreOwn, are_own, own_spare, own_front, inner_base, inner_told}
 use Rattle.folder_store.proofs.PutWeave.{Fair, Rule, all_right}
 
 -- ---- the put
@@ -48,89 +49,6 @@ asked_reads request root driver key item asks = absurd asks
 -- no item is empty
 filled : (driver : DriverKeys) (item blob : List ℕ) → Reads driver item blob → nat_eq (length item) 0 ≡ false
 filled driver item blob reads = ne_eqb (length item) 0 (λ empty. absurd (omega (arith, empty, at_least driver item blob reads)))
-
--- ---- places and histories
-
-abbrev place_of : History → Place
-place_of h = record { state = state_of h; log = h.log; base = disk_of h; told = [] }
-
--- the place at which a history ends
-record IsAt (h : History) (p : Place) : Type 0 where
-  pub state : p.state ≡ state_of h
-  pub log : p.log ≡ h.log
-
-state_then : (h : History) (news : List LogItem) → state_of (with_items h news) ≡ fold after (state_of h) news
-state_then h news = fold-append after (first h.start) h.log news
-
-at_next : (me : Who) (h : History) (p : Place) (x : LogItem) → IsAt h p → IsAt (with_item h x) (step me p x)
-at_next me h p x at = record {
-  state = ap (λ (s : State). after s x) at.state ∙ sym (state_then h (x ∷ []));
-  log = ap (λ (log : List LogItem). log ++ x ∷ []) at.log;
-}
-
--- the state of a place is that of the log
-states : (me : Who) (p : Place) (xs : List LogItem) → (fold (step me) p xs).state ≡ fold after p.state xs
-states me p [] = refl
-states me p (x ∷ xs) = states me (step me p x) xs
-
-all_at : {S : Type 0} (next : S → LogItem → S) (R : S → LogItem → Type 0) (s : S) (xs ys : List LogItem) (x : LogItem) → All next R s (xs ++ x ∷ ys) → R (fold next s xs) x
-all_at next R s [] ys x all = all.0
-all_at next R s (y ∷ xs) ys x all = all_at next R (next s y) xs ys x all.1
-
--- ---- where all items are own
-
-abbrev AreOwn : Who → List LogItem → Type 0
-AreOwn me log = AllByRecursion (λ x. is_own me x ≡ true) log
-
-no_more : (me : Who) (log : List LogItem) → length (own me log) ≤ length log
-no_more me [] = omega arith
-no_more me (x ∷ log) = by_test (is_own me x) (no_more me log)
-  where
-    by_test : (t : Bool) → length (own me log) ≤ length log → length (cond t (x ∷ own me log) (own me log)) ≤ length (x ∷ log)
-    by_test true less = omega (arith, less)
-    by_test false less = omega (arith, less)
-
-are_own : (me : Who) (log : List LogItem) → own me log ≡ log → AreOwn me log
-are_own me [] e = tt
-are_own me (x ∷ log) e = by_test (is_own me x) refl e (are_own me log)
-  where
-    by_test : (t : Bool) → is_own me x ≡ t → cond t (x ∷ own me log) (own me log) ≡ x ∷ log → (own me log ≡ log → AreOwn me log) → AreOwn me (x ∷ log)
-    by_test true mine same again = (mine, again (ap (drop 1) same))
-    by_test false other same again = absurd (omega (arith, ap length same, no_more me log))
-
-own_spare : (me : Who) (root : ℕ) (key : Key) (h : History) (log : List LogItem) → AreOwn me log → All with_item (OthersSpare me root key) h log
-own_spare me root key h [] mine = tt
-own_spare me root key h (x ∷ log) mine = (λ other. absurd (false≢true (sym other ∙ mine.0)), own_spare me root key (with_item h x) log mine.1)
-
-own_front : (me : Who) (xs ys : List LogItem) → AreOwn me (xs ++ ys) → AreOwn me xs
-own_front me [] ys mine = tt
-own_front me (x ∷ xs) ys mine = (mine.0, own_front me xs ys mine.1)
-
--- ---- what stays from the Begin on
-
-module _ (me : Who) (root : ℕ) where
-  one_base : (base now : Disk) (x : LogItem) → IsWithinRoot root x → base_after me base now x ≡ base
-  one_base base now (items.Begin who request) within = absurd within
-  one_base base now x within = refl
-
-  one_told : (told : List LogItem) (x : LogItem) → IsWithinRoot root x → is_own me x ≡ true → told_after me told x ≡ told ++ filter is_evict (x ∷ [])
-  one_told told (items.Evict who store driver key) within mine = rw mine refl
-  one_told told (items.Did who call reply) within mine = sym (append-nil told)
-  one_told told (items.Byte who slot at value) within mine = sym (append-nil told)
-  one_told told (items.Failed who memory) within mine = sym (append-nil told)
-  one_told told x within mine = absurd within
-
-  inner_base : (p : Place) (xs : List LogItem) → AllByRecursion (IsWithinRoot root) xs → (fold (step me) p xs).base ≡ p.base
-  inner_base p [] within = refl
-  inner_base p (x ∷ xs) within = inner_base (step me p x) xs within.1 ∙ one_base p.base p.state.disk x within.0
-
-  inner_told : (p : Place) (xs : List LogItem) → AllByRecursion (IsWithinRoot root) xs → AreOwn me xs → (fold (step me) p xs).told ≡ p.told ++ filter is_evict xs
-  inner_told p [] within mine = sym (append-nil p.told)
-  inner_told p (x ∷ xs) within mine =
-      inner_told (step me p x) xs within.1 mine.1
-      ∙ ap (λ (l : List LogItem). l ++ filter is_evict xs) (one_told p.told x within.0 mine.0)
-      ∙ append_assoc p.told (filter is_evict (x ∷ [])) (filter is_evict xs)
-      ∙ ap (λ (l : List LogItem). p.told ++ l) (sym (filter-append is_evict (x ∷ []) xs))
 
 -- ---- along the log
 
@@ -147,8 +65,8 @@ module _ (me : Who) (request : Request) (root : ℕ) (driver : DriverKeys) (key 
   abbrev IsFair : Bool → Place → LogItem → Type 0
   IsFair alone p x = Fair (job alone) request fits (filled driver item blob reads) asks reads p x
 
-  abbrev Keeps-rule : Bool → Place → LogItem → Type 0
-  Keeps-rule alone p x = Rule (job alone) request fits (filled driver item blob reads) asks reads p x
+  abbrev IsKept : Bool → Place → LogItem → Type 0
+  IsKept alone p x = Rule (job alone) request fits (filled driver item blob reads) asks reads p x
 
   fair_of : (alone : Bool) (h : History) (p : Place) (news : List LogItem) → IsAt h p → Legal p.state news → All with_item (OthersSpare me root key) h news → (alone ≡ true → AreOwn me news) → All (step me) (IsFair alone) p news
   fair_of alone h p [] at legal spare mine = tt
@@ -157,7 +75,7 @@ module _ (me : Who) (request : Request) (root : ℕ) (driver : DriverKeys) (key 
       ((legal.0, spared, λ is. (mine is).0), fair_of alone (with_item h x) (step me p x) news (at_next me h p x at) legal.1 spare.1 (λ is. (mine is).1))
 
   -- entries stay whole
-  keeps_whole : (alone : Bool) (h : History) (p : Place) (news : List LogItem) → IsAt h p → All (step me) (Keeps-rule alone) p news → EntriesAreWhole h → Keeps with_item IsWholeAfter me h news
+  keeps_whole : (alone : Bool) (h : History) (p : Place) (news : List LogItem) → IsAt h p → All (step me) (IsKept alone) p news → EntriesAreWhole h → Keeps with_item IsWholeAfter me h news
   keeps_whole alone h p [] at all whole = tt
   keeps_whole alone h p (x ∷ news) at all whole = (λ mine. now (all.0 mine), λ rule. keeps_whole alone (with_item h x) (step me p x) news (at_next me h p x at) all.1 rule)
     where
@@ -173,7 +91,7 @@ module _ (me : Who) (request : Request) (root : ℕ) (driver : DriverKeys) (key 
       subst (λ (log : List LogItem). EvictIsOpen log who (folder_of root') driver' key') at.log (r bytes driver' (ap (λ (s : State). file_of s.disk (Entry root' key')) at.state ∙ is) fronts)
   told_at h p x at r = tt
 
-  keeps_told : (alone : Bool) (h : History) (p : Place) (news : List LogItem) → IsAt h p → All (step me) (Keeps-rule alone) p news → Keeps with_item ReplacesTold me h news
+  keeps_told : (alone : Bool) (h : History) (p : Place) (news : List LogItem) → IsAt h p → All (step me) (IsKept alone) p news → Keeps with_item ReplacesTold me h news
   keeps_told alone h p [] at all = tt
   keeps_told alone h p (x ∷ news) at all = (λ mine. told_at h p x at (all.0 mine).replaces, λ rule. keeps_told alone (with_item h x) (step me p x) news (at_next me h p x at) all.1)
 
@@ -183,7 +101,7 @@ module _ (me : Who) (request : Request) (root : ℕ) (driver : DriverKeys) (key 
     abbrev made : List LogItem
     made = items.Begin me request ∷ (items_of_all xs ++ items.End me answer ∷ [])
 
-    right_from : (alone : Bool) (h : History) (news : List LogItem) → OwnsToEnd me made h news → All with_item (OthersSpare me root key) h news → (alone ≡ true → AreOwn me news) → All (step me) (Keeps-rule alone) (place_of h) news
+    right_from : (alone : Bool) (h : History) (news : List LogItem) → OwnsToEnd me made h news → All with_item (OthersSpare me root key) h news → (alone ≡ true → AreOwn me news) → All (step me) (IsKept alone) (place_of h) news
     right_from alone h news o spare mine =
         let fair = fair_of alone h (place_of h) news (record { state = refl; log = refl }) o.owns.legal spare mine in
         all_right (job alone) request fits (filled driver item blob reads) asks reads begin answer news (place_of h) xs given end new runs answer_is o.owns.own_items (tidy h) fair o.owns.goes_on
@@ -207,11 +125,11 @@ module _ (me : Who) (request : Request) (root : ℕ) (driver : DriverKeys) (key 
     IsAlone old now told = Leaves root driver key blob answer old now × LeavesElsewhere root key old now × TellsEvicts me root key (file_of old (Entry root key)) answer told
 
     -- what the End says, of the disks of the history
-    at_end : (h : History) → AllByRecursion (IsWithinRoot root) inner → AreOwn me made → All (step me) (Keeps-rule true) (place_of h) made → IsAlone (disk_of h) (disk_of (with_items h made)) (filter is_evict made)
+    at_end : (h : History) → AllByRecursion (IsWithinRoot root) inner → AreOwn me made → All (step me) (IsKept true) (place_of h) made → IsAlone (disk_of h) (disk_of (with_items h made)) (filter is_evict made)
     at_end h within mine all =
         let p1 : Place = step me (place_of h) (items.Begin me request) in
         let p : Place = fold (step me) (place_of h) before_end in
-        let right : IsRight (job true) p (items.End me answer) = all_at (step me) (Keeps-rule true) (place_of h) before_end [] (items.End me answer) all (seat_self me) in
+        let right : IsRight (job true) p (items.End me answer) = all_at (step me) (IsKept true) (place_of h) before_end [] (items.End me answer) all (seat_self me) in
         let began : p1.base ≡ disk_of h = rw (seat_self me) refl in
         let none : p1.told ≡ [] = rw (seat_self me) refl in
         let base : p.base ≡ disk_of h = inner_base me root p1 inner within ∙ began in
@@ -229,7 +147,7 @@ module _ (me : Who) (request : Request) (root : ℕ) (driver : DriverKeys) (key 
         let is : made ≡ news = sym o.owns.own_items ∙ alone in
         let mine = are_own me news alone in
         let all = right_from true h news o (own_spare me root key h news mine) (λ same. mine) in
-        let ended = at_end h within (subst (AreOwn me) (sym is) mine) (subst (λ (l : List LogItem). All (step me) (Keeps-rule true) (place_of h) l) (sym is) all) in
+        let ended = at_end h within (subst (AreOwn me) (sym is) mine) (subst (λ (l : List LogItem). All (step me) (IsKept true) (place_of h) l) (sym is) all) in
         let at_news : IsAlone (disk_of h) (disk_of (with_items h news)) (filter is_evict made) = subst (λ (l : List LogItem). IsAlone (disk_of h) (disk_of (with_items h l)) (filter is_evict made)) is ended in
         let whole : IsAlone (disk_of h) (disk_of (with_items h news)) (filter is_evict (own me news)) = subst (λ (l : List LogItem). IsAlone (disk_of h) (disk_of (with_items h news)) (filter is_evict l)) (sym o.owns.own_items) at_news in
         record { leaves = whole.0; elsewhere = whole.1; evicts = whole.2 }

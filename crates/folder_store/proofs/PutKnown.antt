@@ -1,7 +1,7 @@
 -- What a put knows between its calls, and what of it stays after an item.
 use Rattle.std.proofs.Common.{◌≡◌, ◌⊎◌, inl, inr, ℕ, Bool, true, false, cond, List, [], ◌∷◌, ◌++◌, length, Option, Some, None, refl, sym, ap, ◌∙◌, subst, append_assoc}
 use Rattle.std.proofs.lemmas.List.Elements.{Contains-append_left}
-use Rattle.cache_types.specs.Driver.{DriverKeys, IsDriver, Fronts}
+use Rattle.cache_types.specs.Driver.{DriverKeys, Fronts}
 use Rattle.cache_types.specs.Seats.{same_seat}
 use Rattle.cache_types.specs.declared.answer.Answer.{Answer}
 use Rattle.cache_types.specs.declared.answer.Answer.TheVariants as answers
@@ -21,7 +21,7 @@ use Rattle.folder_store.specs.declared.put.PutPhase.TheVariants.{Opening, Measur
 use Rattle.folder_store.specs.Entries.{folder_of, IsPutItem, NoEndOf, is_end_of, EvictIsOpen, IsSpared}
 use Rattle.folder_store.specs.Holds.{FileReads}
 use Rattle.folder_store.specs.Put.{LeavesElsewhere, TellsReplaced}
-use Rattle.folder_store.proofs.PutDisks.{HasOld, HasTemp, still_file, spared_file, still_spared}
+use Rattle.folder_store.proofs.PutDisks.{HasOld, HasTemp, spared_file}
 
 -- ---- the put, and a place of the log
 

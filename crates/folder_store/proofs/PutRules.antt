@@ -1,10 +1,10 @@
 -- What each own item of a put keeps: entries are whole, none is replaced before that was told, and the End says what is left.
-use Rattle.std.proofs.Common.{◌≡◌, ◌⊎◌, inl, inr, ℕ, Bool, true, false, List, [], ◌∷◌, ◌++◌, Option, Some, None, refl, sym, ap, ◌∙◌, subst}
+use Rattle.std.proofs.Common.{◌≡◌, ◌⊎◌, inl, inr, ℕ, Bool, true, false, List, [], ◌∷◌, ◌++◌, Some, refl, sym, ap, ◌∙◌, subst}
 use Rattle.cache_types.specs.Driver.{DriverKeys, Fronts}
 use Rattle.cache_types.specs.Names.{same_name}
 use Rattle.cache_types.specs.declared.key.Key.{Key}
 use Rattle.cache_types.specs.declared.name.Name.{Name}
-use Rattle.cache_types.specs.declared.name.Name.TheVariants.{Entry, Temp}
+use Rattle.cache_types.specs.declared.name.Name.TheVariants.{Entry}
 use Rattle.cache_types.proofs.Names.{same_name_decides}
 use Rattle.file_log.specs.declared.call.Call.TheVariants.{Rename}
 use Rattle.file_log.specs.declared.item.LogItem.{LogItem}
@@ -16,7 +16,7 @@ use Rattle.file_log.specs.Operation.{IsStill}
 use Rattle.file_log.proofs.Tidiness.{item_tidy}
 use Rattle.folder_store.specs.Entries.{folder_of, IsPutItem, is_end_of, EvictIsOpen}
 use Rattle.folder_store.specs.Put.{Leaves, LeavesElsewhere, TellsEvicts}
-use Rattle.folder_store.proofs.PutDisks.{Apart, still_file, still_spared, same_file, entry_no_temp, apart_elsewhere, apart_entry}
+use Rattle.folder_store.proofs.PutDisks.{Apart, still_file, still_spared, entry_no_temp, apart_elsewhere, apart_entry}
 use Rattle.folder_store.proofs.PutKnown.{Job, Place, step, base_after, told_after, put_item_on, Base, Passes, Goes, Rests, base_on, old}
 
 abbrev pub AreWhole : List LogItem → Disk → Type 0

@@ -1,5 +1,5 @@
 -- A put among others: each of its own items keeps what PutRules says.
-use Rattle.std.proofs.Common.{◌≡◌, ◌⊎◌, inl, inr, ℕ, Bool, true, false, nat_eq, List, [], ◌∷◌, ◌++◌, length, Option, Some, refl, sym, ap, ◌∙◌, subst}
+use Rattle.std.proofs.Common.{◌≡◌, inl, inr, ℕ, true, false, nat_eq, List, [], ◌∷◌, ◌++◌, length, Option, refl, sym, ap, ◌∙◌, subst}
 use Rattle.std.proofs.lemmas.Bool.{false≢true}
 use Rattle.std.proofs.lemmas.List.{append-nil}
 use Rattle.std.proofs.lemmas.List.Elements.{Contains-push}
@@ -11,25 +11,21 @@ use Rattle.cache_types.specs.declared.key.Key.{Key}
 use Rattle.cache_types.specs.declared.name.Name.TheVariants.{Entry}
 use Rattle.cache_types.specs.declared.request.Request.{Request}
 use Rattle.cache_types.specs.declared.request.Request.TheVariants as requests
-use Rattle.cache_types.specs.declared.seat.Who.{Who}
 use Rattle.cache_types.specs.declared.store.Store.{Store}
 use Rattle.file_log.specs.declared.call.Call.{Call}
-use Rattle.file_log.specs.declared.call.Call.TheVariants as calls
 use Rattle.file_log.specs.declared.item.LogItem.{LogItem}
-use Rattle.file_log.specs.declared.item.LogItem.TheVariants.{Begin, End, Did, Failed}
+use Rattle.file_log.specs.declared.item.LogItem.TheVariants.{Begin, End}
 use Rattle.file_log.specs.declared.reply.Reply.{Reply}
 use Rattle.file_log.specs.declared.reply.Reply.TheVariants as replies
 use Rattle.file_log.specs.Along.{All}
 use Rattle.file_log.specs.Disk.{Disk, file_of}
 use Rattle.file_log.specs.Effect.{applied}
-use Rattle.file_log.specs.Exchange.{Answers, Makes, Exchange, items_before}
+use Rattle.file_log.specs.Exchange.{Answers, Makes, Exchange}
 use Rattle.file_log.specs.Legal.{IsLegal}
 use Rattle.file_log.specs.Log.{is_own, is_stop, own, NoStop}
 use Rattle.file_log.specs.Operation.{IsStill}
 use Rattle.file_log.specs.Tidy.{IsTidy}
-use Rattle.file_log.specs.Told.{IsSomeItem}
 use Rattle.file_log.proofs.All.{seat_self}
-use Rattle.file_log.proofs.Logs.{some_last}
 use Rattle.file_log.proofs.Tidiness.{item_tidy}
 use Rattle.files_api.specs.declared.machine.Step.{Step}
 use Rattle.files_api.specs.declared.machine.Step.TheVariants as steps
@@ -45,54 +41,15 @@ use Rattle.folder_store.specs.Entries.{folder_of, IsPutItem, IsSpared}
 use Rattle.folder_store.specs.Holds.{FileReads}
 use Rattle.folder_store.specs.Put.{AsksPut, Leaves, TellsEvicts}
 use Rattle.folder_store.specs.PutPhases.{IsNewPut, asks_put, asks_put_in, asked_put, after_put_asking, item_after, FedPut, NextPut}
-use Rattle.folder_store.proofs.PutKnown.{Job, Place, step, other_base, other_told, other_end, Base, base_on, Looking, Excused, Answered, KnowsAt, Spares, knows_on, written_on, going_on, rests_goes, old}
+use Rattle.folder_store.proofs.PutKnown.{Job, Place, step, other_base, other_told, other_end, Base, base_on, Looking, Answered, KnowsAt, Spares, knows_on, written_on, going_on, rests_goes, old}
 use Rattle.folder_store.proofs.PutRules.{IsRight, whole_still}
-use Rattle.folder_store.proofs.PutSteps.{AnswersIn, asks_at, MakesIn, Follows, Stepped, Steps, into, looking_excused, opening, measuring, reading, reading_front, leaving}
+use Rattle.folder_store.proofs.PutSteps.{AnswersIn, asks_at, MakesIn, Follows, Stepped, into, looking_excused}
+use Rattle.folder_store.proofs.PutMakes.{IsPlain, none_made}
+use Rattle.folder_store.proofs.PutLooks.{opening, measuring, reading, reading_front, leaving}
 use Rattle.folder_store.proofs.PutChanges.{evicting, making, cutting, renaming, closing_entry, closing_temp}
-use Rattle.folder_store.proofs.PutWrites.{Writes, Doing, Moved, Moves, writing, writing_starts}
-use Rattle.folder_store.proofs.Slots.{other_slots}
+use Rattle.folder_store.proofs.PutWrites.{Doing, Moved, writing, writing_starts}
+use Rattle.file_log.proofs.Slots.{other_slots}
 use Rattle.folder_store.proofs.Still.{all_as_own}
-
--- ---- calls that make an item
-
-abbrev IsPlain : Call → Type 0
-IsPlain (calls.OpenOld slot name) = Unit {0}
-IsPlain (calls.OpenNew slot name) = Unit {0}
-IsPlain (calls.Length slot) = Unit {0}
-IsPlain (calls.ReadAt slot at n) = Unit {0}
-IsPlain (calls.Cut slot n) = Unit {0}
-IsPlain (calls.Rename from to) = Unit {0}
-IsPlain (calls.Close slot) = Unit {0}
-IsPlain call = ⊥
-
-none_done : (me : Who) (call : Call) → IsPlain call → Makes me true call replies.Done [] → ⊥
-none_done me (calls.OpenOld slot name) plain ms = absurd cc
-none_done me (calls.OpenNew slot name) plain ms = absurd cc
-none_done me (calls.Length slot) plain ms = absurd cc
-none_done me (calls.ReadAt slot at n) plain ms = absurd cc
-none_done me (calls.Cut slot n) plain ms = absurd cc
-none_done me (calls.Rename from to) plain ms = absurd cc
-none_done me (calls.Close slot) plain ms = absurd cc
-none_done me call plain ms = plain
-
-some_items : (before : List LogItem) (x : LogItem) → [] ≡ before ++ x ∷ [] → ⊥
-some_items before x e = subst IsSomeItem (sym e) (some_last before x)
-
-none_refused : (me : Who) (call : Call) → IsPlain call → Makes me true call replies.NoMemory [] → ⊥
-none_refused me (calls.OpenOld slot name) plain ms = some_items [] _ ms.1
-none_refused me (calls.OpenNew slot name) plain ms = some_items [] _ ms.1
-none_refused me (calls.Length slot) plain ms = some_items [] _ ms.1
-none_refused me (calls.ReadAt slot at n) plain ms = some_items [] _ ms.1
-none_refused me (calls.Cut slot n) plain ms = some_items [] _ ms.1
-none_refused me (calls.Rename from to) plain ms = some_items [] _ ms.1
-none_refused me (calls.Close slot) plain ms = some_items [] _ ms.1
-none_refused me call plain ms = plain
-
-none_made : (me : Who) (call : Call) (reply : Reply) → IsPlain call → Makes me true call reply [] → ⊥
-none_made me call replies.Done plain ms = none_done me call plain ms
-none_made me call replies.Failed plain ms = some_items (items_before me call ms.0) (Failed me false) ms.1
-none_made me call replies.NoMemory plain ms = none_refused me call plain ms
-none_made me call reply plain ms = some_items [] _ ms
 
 -- ---- what is known along the run
 

@@ -16,7 +16,7 @@ use Rattle.folder_store.specs.declared.put.PutPhase.{PutPhase}
 use Rattle.folder_store.specs.declared.put.PutPhase.TheVariants.{Writing, Renaming}
 use Rattle.folder_store.specs.PutPhases.{closing}
 use Rattle.folder_store.proofs.PutDisks.{writing_apart, writing_has}
-use Rattle.folder_store.proofs.PutKnown.{Job, Place, step, Base, Going, HasWritten, KnowsAt, rests_goes, going_on, excused_on}
+use Rattle.folder_store.proofs.PutKnown.{Job, Place, step, Base, Going, HasWritten, KnowsAt, rests_goes, going_on}
 use Rattle.folder_store.proofs.PutRules.{IsRight, Changed, changed}
 use Rattle.folder_store.proofs.PutSteps.{AnswersIn, asks_at, MakesIn, Follows, into, closing_knows, going_excused, failed}
 
