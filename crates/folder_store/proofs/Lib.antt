@@ -7,5 +7,16 @@ pub mod Finding
 pub mod WholeLookup
 pub mod PutCalls
 pub mod PutOutcome
+pub mod PutDisks
+pub mod PutKnown
+pub mod PutRules
+pub mod PutSteps
+pub mod PutLooks
+pub mod PutChanges
+pub mod PutWrites
+pub mod PutMakes
+pub mod PutWeave
+pub mod PutPlaces
+pub mod PutEnds
 pub mod PutOnDisk
 pub mod WholePut

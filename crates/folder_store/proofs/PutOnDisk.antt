@@ -1,4 +1,4 @@
--- What a put promises of the disk; a put that was not begun, or that made no call, keeps it.
+-- What a put does to the disk that was not begun, or that made no call: nothing.
 use Rattle.std.proofs.Common.{◌≡◌, inl, ℕ, Bool, true, false, cond, List, [], ◌∷◌, ◌++◌, filter, refl, sym, ap, subst, ◌∙◌}
 use Rattle.std.specs.List.{AllByRecursion}
 use Rattle.std.proofs.lemmas.List.Elements.{Contains-append_left}
@@ -19,7 +19,7 @@ use Rattle.file_log.specs.Log.{History, with_items, own, is_own}
 use Rattle.file_log.specs.State.{State, disk_of}
 use Rattle.folder_store.specs.Entries.{with_item, EntriesAreWhole, IsPutItem, IsWholeAfter, ReplacesTold, OthersSpare}
 use Rattle.folder_store.specs.Put.{PutsAlone, is_evict}
-use Rattle.folder_store.proofs.Operations.{state_then}
+use Rattle.folder_store.proofs.PutPlaces.{state_then}
 
 -- what the new items of a put do to the disk, alone and among others
 pub record OnDisk (me : Who) (root : ℕ) (driver : DriverKeys) (key : Key) (blob : List ℕ) (answer : Answer) (h : History) (news : List LogItem) : Type 0 where
