@@ -1,3 +1,5 @@
+pub mod Items
+pub mod Operations
 pub mod Calls
 pub mod Still
 pub mod Outcome
@@ -14,3 +16,7 @@ pub mod PutMakes
 pub mod PutWeave
 pub mod PutPlaces
 pub mod PutEnds
+pub mod PutCalls
+pub mod PutOutcome
+pub mod PutOnDisk
+pub mod WholePut

@@ -33,6 +33,7 @@ pub fn folder_put<F: Files>(
     ensures faults { F.faults files.old ≤ F.faults files.new }
 {
     driver.known();
+    files.known();
     operate(alloc, files, request, move || {
         Ok(FolderPut::new(alloc, root, driver, key, item))
     })
