@@ -5,6 +5,8 @@ pub mod Still
 pub mod Outcome
 pub mod Finding
 pub mod WholeLookup
+pub mod PutCalls
+pub mod PutOutcome
 pub mod PutDisks
 pub mod PutKnown
 pub mod PutRules
@@ -16,7 +18,5 @@ pub mod PutMakes
 pub mod PutWeave
 pub mod PutPlaces
 pub mod PutEnds
-pub mod PutCalls
-pub mod PutOutcome
 pub mod PutOnDisk
 pub mod WholePut

@@ -1,8 +1,7 @@
 -- What is common to whole operations, from their Begin to their End.
-use Rattle.std.proofs.Common.{◌≡◌, ◌↔◌, Bool, true, false, ◌||◌, List, [], ◌∷◌, ◌++◌, fold, Option, Some, None, refl, sym, subst, ◌∙◌}
+use Rattle.std.proofs.Common.{◌≡◌, ◌↔◌, Bool, true, false, ◌||◌, List, [], ◌∷◌, ◌++◌, Option, Some, None, refl, sym, subst, ◌∙◌}
 use Rattle.std.specs.List.{list_any}
 use Rattle.std.proofs.lemmas.List.Folds.{list_any-append}
-use Rattle.std.proofs.lemmas.List.Sums.{fold-append}
 use Rattle.cache_types.specs.declared.answer.Answer.{Answer}
 use Rattle.cache_types.specs.declared.answer.Answer.TheVariants as answers
 use Rattle.cache_types.specs.declared.request.Request.{Request}
@@ -10,23 +9,19 @@ use Rattle.cache_types.specs.declared.seat.Who.{Who}
 use Rattle.file_log.specs.declared.item.LogItem.{LogItem}
 use Rattle.file_log.specs.declared.item.LogItem.TheVariants.{Begin, End}
 use Rattle.file_log.specs.Legal.{Legal}
-use Rattle.file_log.specs.Log.{History, with_items}
-use Rattle.file_log.specs.State.{State, first, after, state_of}
+use Rattle.file_log.specs.Log.{History}
+use Rattle.file_log.specs.State.{State, after}
 use Rattle.file_log.specs.Told.{Grows}
 use Rattle.folder_store.proofs.Items.{any_fault}
 
 -- what follows on what is known of the new items of a history
-pub Grows-map : (old new : Option History) (P Q : History → List LogItem → Type 0) → Grows old new P → ((h : History) (news : List LogItem) → old ≡ Some h → P h news → Q h news) → Grows old new Q
+pub Grows-map : (old new : Option History) (P Q : History → List LogItem → Type 0) → Grows old new P → ((h : History) (news : List LogItem) → P h news → Q h news) → Grows old new Q
 Grows-map None new P Q g f = tt
-Grows-map (Some h) new P Q g f = (g.0, g.1, f h g.0 refl g.2)
+Grows-map (Some h) new P Q g f = (g.0, g.1, f h g.0 g.2)
 
 pub Legal-front : (s : State) (xs ys : List LogItem) → Legal s (xs ++ ys) → Legal s xs
 Legal-front s [] ys legal = tt
 Legal-front s (x ∷ xs) ys legal = (legal.0, Legal-front (after s x) xs ys legal.1)
-
--- the state after more items
-pub state_then : (h : History) (news : List LogItem) → state_of (with_items h news) ≡ fold after (state_of h) news
-state_then h news = fold-append after (first h.start) h.log news
 
 -- ---- want of memory is no fault
 

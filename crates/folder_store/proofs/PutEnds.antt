@@ -34,11 +34,9 @@ use Rattle.folder_store.specs.declared.put.FolderPut.{FolderPut}
 use Rattle.folder_store.specs.Entries.{folder_of, with_item, EntriesAreWhole, IsWholeAfter, EvictIsOpen, ReplacesTold, IsSpared, OthersSpare}
 use Rattle.folder_store.specs.Put.{AsksPut, blob_in, Leaves, LeavesElsewhere, TellsEvicts, PutsAlone, is_evict}
 use Rattle.folder_store.specs.PutPhases.{IsNewPut, asks_put, asked_put, FedPut}
-use Rattle.folder_store.proofs.Operations.{state_then}
-use Rattle.folder_store.proofs.PutOnDisk.{OnDisk}
 use Rattle.folder_store.proofs.PutKnown.{Job, Place, step}
 use Rattle.folder_store.proofs.PutRules.{AreWhole, Replaces, IsRight}
-use Rattle.folder_store.proofs.PutPlaces.{place_of, IsAt, at_next, states, all_at, AreOwn, are_own, own_spare, own_front, inner_base, inner_told}
+use Rattle.folder_store.proofs.PutPlaces.{place_of, IsAt, state_then, at_next, states, all_at, AreOwn, are_own, own_spare, own_front, inner_base, inner_told}
 use Rattle.folder_store.proofs.PutWeave.{Fair, Rule, all_right}
 
 -- ---- the put
@@ -108,11 +106,11 @@ module _ (me : Who) (request : Request) (root : ℕ) (driver : DriverKeys) (key 
         let fair = fair_of alone h (place_of h) news (record { state = refl; log = refl }) o.owns.legal spare mine in
         all_right (job alone) request fits (filled driver item blob reads) asks reads begin answer news (place_of h) xs given end new runs answer_is o.owns.own_items (tidy h) fair o.owns.goes_on
 
-    put_whole : (h : History) (news : List LogItem) → OwnsToEnd me made h news → All with_item (OthersSpare me root key) h news → EntriesAreWhole h → Keeps with_item IsWholeAfter me h news
+    pub put_whole : (h : History) (news : List LogItem) → OwnsToEnd me made h news → All with_item (OthersSpare me root key) h news → EntriesAreWhole h → Keeps with_item IsWholeAfter me h news
     put_whole h news o spare whole =
         keeps_whole false h (place_of h) news (record { state = refl; log = refl }) (right_from false h news o spare (λ is. absurd (false≢true is))) whole
 
-    put_tells : (h : History) (news : List LogItem) → OwnsToEnd me made h news → All with_item (OthersSpare me root key) h news → Keeps with_item ReplacesTold me h news
+    pub put_tells : (h : History) (news : List LogItem) → OwnsToEnd me made h news → All with_item (OthersSpare me root key) h news → Keeps with_item ReplacesTold me h news
     put_tells h news o spare = keeps_told false h (place_of h) news (record { state = refl; log = refl }) (right_from false h news o spare (λ is. absurd (false≢true is)))
 
     -- ---- alone
@@ -144,7 +142,7 @@ module _ (me : Who) (request : Request) (root : ℕ) (driver : DriverKeys) (key 
         subst (λ (d : Disk). IsAlone d (disk_of (with_items h made)) (filter is_evict made)) base
         (subst (λ (d : Disk). IsAlone p.base d (filter is_evict made)) disk (subst (λ (l : List LogItem). IsAlone p.base p.state.disk l) all_told here))
 
-    put_alone : (h : History) (news : List LogItem) → OwnsToEnd me made h news → AllByRecursion (IsWithinRoot root) inner → own me news ≡ news → PutsAlone me root driver key blob answer (disk_of h) (disk_of (with_items h news)) (own me news)
+    pub put_alone : (h : History) (news : List LogItem) → OwnsToEnd me made h news → AllByRecursion (IsWithinRoot root) inner → own me news ≡ news → PutsAlone me root driver key blob answer (disk_of h) (disk_of (with_items h news)) (own me news)
     put_alone h news o within alone =
         let is : made ≡ news = sym o.owns.own_items ∙ alone in
         let mine = are_own me news alone in
@@ -153,11 +151,3 @@ module _ (me : Who) (request : Request) (root : ℕ) (driver : DriverKeys) (key 
         let at_news : IsAlone (disk_of h) (disk_of (with_items h news)) (filter is_evict made) = subst (λ (l : List LogItem). IsAlone (disk_of h) (disk_of (with_items h l)) (filter is_evict made)) is ended in
         let whole : IsAlone (disk_of h) (disk_of (with_items h news)) (filter is_evict (own me news)) = subst (λ (l : List LogItem). IsAlone (disk_of h) (disk_of (with_items h news)) (filter is_evict l)) (sym o.owns.own_items) at_news in
         record { leaves = whole.0; elsewhere = whole.1; evicts = whole.2 }
-
-    -- What the put did to the disk.
-    pub operated_on_disk : (h : History) (news : List LogItem) → OwnsToEnd me made h news → AllByRecursion (IsWithinRoot root) inner → OnDisk me root driver key blob answer h news
-    operated_on_disk h news o within = record {
-      alone = λ mine. put_alone h news o within mine;
-      whole = λ others whole. put_whole h news o others whole;
-      tells_first = λ others. put_tells h news o others;
-    }

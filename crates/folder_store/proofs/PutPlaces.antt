@@ -4,18 +4,18 @@ use Rattle.std.specs.List.{AllByRecursion}
 use Rattle.std.proofs.lemmas.Bool.{false≢true}
 use Rattle.std.proofs.lemmas.List.{append-nil}
 use Rattle.std.proofs.lemmas.List.Elements.{filter-append}
+use Rattle.std.proofs.lemmas.List.Sums.{fold-append}
 use Rattle.cache_types.specs.declared.key.Key.{Key}
 use Rattle.cache_types.specs.declared.seat.Who.{Who}
 use Rattle.file_log.specs.declared.item.LogItem.{LogItem}
 use Rattle.file_log.specs.declared.item.LogItem.TheVariants as items
 use Rattle.file_log.specs.Along.{All}
 use Rattle.file_log.specs.Disk.{Disk}
-use Rattle.file_log.specs.Log.{History, is_own, own}
+use Rattle.file_log.specs.Log.{History, with_items, is_own, own}
 use Rattle.file_log.specs.Operation.{IsWithinRoot}
-use Rattle.file_log.specs.State.{State, after, state_of, disk_of}
+use Rattle.file_log.specs.State.{State, first, after, state_of, disk_of}
 use Rattle.folder_store.specs.Entries.{with_item, OthersSpare}
 use Rattle.folder_store.specs.Put.{is_evict}
-use Rattle.folder_store.proofs.Operations.{state_then}
 use Rattle.folder_store.proofs.PutKnown.{Place, step, base_after, told_after}
 
 -- ---- places and histories
@@ -27,6 +27,9 @@ place_of h = record { state = state_of h; log = h.log; base = disk_of h; told = 
 pub record IsAt (h : History) (p : Place) : Type 0 where
   pub state : p.state ≡ state_of h
   pub log : p.log ≡ h.log
+
+pub state_then : (h : History) (news : List LogItem) → state_of (with_items h news) ≡ fold after (state_of h) news
+state_then h news = fold-append after (first h.start) h.log news
 
 pub at_next : (me : Who) (h : History) (p : Place) (x : LogItem) → IsAt h p → IsAt (with_item h x) (step me p x)
 at_next me h p x at = record {

@@ -38,7 +38,7 @@ module _ (me : Who) (request : Request) (root : ℕ) (driver : DriverKeys) (key 
   refused r = record {
     kind = no_memory_kind r.answer_is;
     cause = λ e. absurd (no_fault answer r.answer_is e);
-    told = Grows-map old new _ _ r.told (λ h news is o. record {
+    told = Grows-map old new _ _ r.told (λ h news o. record {
       operation = inl (o.own_items, r.answer_is);
       finds = λ alone. rw r.answer_is tt;
       still = all_as_own after (LeavesAll me) me (λ s item other mine. let clash : false ≡ true = sym other ∙ mine in absurd cc) (state_of h) news (none_keeps after (LeavesAll me) me (state_of h) news o.own_items);
@@ -50,7 +50,7 @@ module _ (me : Who) (request : Request) (root : ℕ) (driver : DriverKeys) (key 
   unmade r = record {
     kind = no_memory_kind r.answer_is;
     cause = λ e. absurd (no_fault answer r.answer_is e);
-    told = Grows-map old new _ _ r.told (λ h news is o. record {
+    told = Grows-map old new _ _ r.told (λ h news o. record {
       operation = inr (record { inner = []; whole = o.owns.own_items ∙ ap (λ (a : Answer). Begin me request ∷ End me a ∷ []) (sym r.answer_is); within = tt; few = omega arith });
       finds = λ alone. rw r.answer_is tt;
       still = nothing_stays me request news (state_of h) o.owns.own_items o.owns.legal o.owns.goes_on;
@@ -87,7 +87,7 @@ module _ (me : Who) (request : Request) (root : ℕ) (driver : DriverKeys) (key 
       record {
         kind = end_kind r.given r.answer_is out.kind;
         cause = λ e. r.counts.rose (out.failed (fault_given r.given r.answer_is e));
-        told = Grows-map old new _ _ r.told (λ h news is o. record {
+        told = Grows-map old new _ _ r.told (λ h news o. record {
           operation = inr (record { inner = inner; whole = o.owns.own_items; within = all_within asks asked Fed me root (λ m. m.root ≡ root) (looks_within root) (same_root root) r.first r.last r.exchanges r.given begun.root_is r.runs; few = few });
           finds = λ alone. end_finds r.given _ r.answer_is (found r begun fits h news (sym alone ∙ o.owns.own_items) o.owns.legal);
           still = looking_stays asks asked Fed me looks r.first request answer news (state_of h) r.exchanges r.given r.last r.runs r.answer_is o.owns.own_items o.owns.legal o.owns.goes_on;
