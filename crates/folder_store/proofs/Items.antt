@@ -1,5 +1,5 @@
 -- The items of a call: the root in which they stand, the calls that they count as, and what they tell of failures and changes.
-use Rattle.std.proofs.Common.{◌≡◌, ◌≤◌, ◌+◌, ℕ, nat_eq, Bool, true, false, cond, ◌||◌, List, [], ◌∷◌, ◌++◌, length, take, Option, Some, None, refl, sym, ap, subst, ◌∙◌, arith}
+use Rattle.std.proofs.Common.{◌≡◌, ◌≤◌, ◌+◌, ℕ, nat_eq, Bool, true, false, cond, List, [], ◌∷◌, ◌++◌, length, take, Option, Some, None, refl, sym, ap, subst, ◌∙◌, arith}
 use Rattle.std.proofs.lemmas.Bool.{eq-eqb}
 use Rattle.std.proofs.lemmas.List.Folds.{list_any-append}
 use Rattle.std.specs.List.{AllByRecursion, list_any}
@@ -16,7 +16,7 @@ use Rattle.file_log.specs.declared.reply.Reply.TheVariants as replies
 use Rattle.file_log.specs.Exchange.{Answers, Makes, Exchange, item_of_note, byte_items, items_done, items_before, items_refused}
 use Rattle.file_log.specs.Operation.{NamesOnly, IsWithinRoot, is_next, next_place, calls_from, calls_in, is_fault}
 use Rattle.files_api.specs.declared.machine.Step.{Step}
-use Rattle.files_api.specs.declared.machine.Step.TheVariants.{Ask, Done}
+use Rattle.files_api.specs.declared.machine.Step.TheVariants.{Ask}
 use Rattle.files_api.specs.Drive.{IsWithin, Runs, items_of_all}
 use Rattle.folder_store.specs.Put.{is_change, is_want}
 

@@ -1,8 +1,7 @@
 -- The calls of a put: all in its root, and at most fourteen.
-use Rattle.std.proofs.Common.{◌≡◌, ◌≤◌, ◌+◌, ◌<◌, ℕ, Bool, true, false, List, refl, sym, ap, subst, ◌∙◌, arith}
+use Rattle.std.proofs.Common.{◌≡◌, ◌≤◌, ◌+◌, ◌<◌, ℕ, Bool, true, false, List, refl, ap, subst, ◌∙◌, arith}
 use Rattle.cache_types.specs.declared.key.Key.{Key}
 use Rattle.cache_types.specs.Driver.{DriverKeys}
-use Rattle.file_log.specs.declared.call.Call.{Call}
 use Rattle.file_log.specs.declared.call.Call.TheVariants.{WriteAt}
 use Rattle.file_log.specs.declared.reply.Reply.{Reply}
 use Rattle.file_log.specs.declared.reply.Reply.TheVariants as replies
@@ -12,7 +11,7 @@ use Rattle.files_api.specs.declared.machine.Step.TheVariants.{Ask, Done}
 use Rattle.files_api.specs.Drive.{IsWithin, Goes}
 use Rattle.folder_store.specs.declared.put.FolderPut.{FolderPut}
 use Rattle.folder_store.specs.declared.put.PutPhase.{PutPhase}
-use Rattle.folder_store.specs.declared.put.PutPhase.TheVariants.{Opening, Measuring, Reading, ReadingFront, Leaving, Evicting, Evicted, Making, Cutting, Writing, Renaming, ClosingEntry, ClosingTemp, Ended, Spent}
+use Rattle.folder_store.specs.declared.put.PutPhase.TheVariants.{Opening, Measuring, Reading, ReadingFront, Leaving, Evicting, Making, Cutting, Writing, Renaming, ClosingEntry, ClosingTemp}
 use Rattle.folder_store.specs.PutLaws.{put_goes_on}
 use Rattle.folder_store.specs.PutPhases.{asks_put, asks_put_in, asked_put, after_put_asking, unless_done, NextPut, FedPut, put_slots_in, put_hurt_in, put_left_in}
 use Rattle.folder_store.proofs.Items.{weight, AsksWithin, Lasts, Spends}

@@ -18,7 +18,7 @@ use Rattle.folder_store.specs.declared.put.PutPhase.TheVariants.{Evicting, Makin
 use Rattle.folder_store.specs.Entries.{folder_of, EvictIsOpen}
 use Rattle.folder_store.specs.Put.{TellsReplaced}
 use Rattle.folder_store.specs.PutPhases.{closing}
-use Rattle.folder_store.proofs.PutDisks.{making_apart, making_has, writing_apart, writing_has, renaming_is}
+use Rattle.folder_store.proofs.PutDisks.{same_bytes, making_apart, making_has, writing_apart, writing_has, renaming_is}
 use Rattle.folder_store.proofs.PutKnown.{Job, Place, step, put_item_on, Base, Going, HasWritten, Replaced, KnowsAt, Passes, base_on, going_on, answered_on}
 use Rattle.folder_store.proofs.PutRules.{whole_then, whole_still, quiet, changed}
 use Rattle.folder_store.proofs.PutSteps.{AnswersIn, split, asks_at, MakesIn, Steps, into, closing_knows, going_fails}
@@ -47,7 +47,7 @@ module _ (j : Job) where
         lacks = k.3;
         replaced = subst (λ (o : Option (List ℕ)). TellsReplaced j.me j.root j.key o p'.told) (sym k.2.1) tells;
         told = λ bytes' driver' is fronts.
-            let same : bytes' ≡ whole = some_is bytes' whole (sym is ∙ k.2.1) in
+            let same : bytes' ≡ whole = same_bytes bytes' whole (sym is ∙ k.2.1) in
             let one : driver ≡ driver' = one_front whole driver driver' k.2.2 (subst (λ (l : List ℕ). Fronts l driver') same fronts) in
             subst (λ (d : DriverKeys). EvictIsOpen p'.log j.me (folder_of j.root) d j.key) one opened;
       } in
@@ -57,9 +57,6 @@ module _ (j : Job) where
         last = refl;
         follows = into j (Making true) bytes p' (k.0, going);
       })
-    where
-      some_is : (a b : List ℕ) → Some a ≡ Some b → a ≡ b
-      some_is a b same = cc
   evicting driver bytes replies.NoMemory p x left b k a ms = let clash : x ∷ left ≡ [] = ms.1 in absurd cc
   evicting driver bytes reply p x left b k a ms = absurd a
 

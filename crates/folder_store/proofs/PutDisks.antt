@@ -32,6 +32,9 @@ entry_no_temp root root' key key' = refl
 
 -- ---- the file of a name
 
+pub same_bytes : (a b : List ℕ) → Some a ≡ Some b → a ≡ b
+same_bytes a b e = cc
+
 -- a name with the same file, whose bytes are the same
 pub same_file : (d d' : Disk) (name : Name) → d'.names name ≡ d.names name → ((f : ℕ) → d.names name ≡ Some f → d'.files f ≡ d.files f) → file_of d' name ≡ file_of d name
 same_file d d' name names files = ap (bytes_in d'.files) names ∙ by_file (d.names name) refl

@@ -24,7 +24,7 @@ use Rattle.folder_store.specs.declared.put.PutPhase.TheVariants.{Opening, Measur
 use Rattle.folder_store.specs.Holds.{FileReads}
 use Rattle.folder_store.specs.Put.{TellsReplaced}
 use Rattle.folder_store.specs.PutPhases.{too_long, measured, Judged, Fronted}
-use Rattle.folder_store.proofs.PutDisks.{own_slot}
+use Rattle.folder_store.proofs.PutDisks.{same_bytes, own_slot}
 use Rattle.folder_store.proofs.PutKnown.{Job, Place, step, Base, Looking, Lacks, Going, HasEntry, KnowsAt, looking_on, old}
 use Rattle.folder_store.proofs.PutRules.{quiet}
 use Rattle.folder_store.proofs.PutSteps.{AnswersIn, split, asks_at, MakesIn, Steps, into, looking_fails}
@@ -83,11 +83,8 @@ module _ (j : Job) where
     entry = l.entry;
     lacks = lacks;
     replaced = subst (λ (o : Option (List ℕ)). TellsReplaced j.me j.root j.key o p.told) (sym is) (inr (none, l.quiet));
-    told = λ bytes driver is' fronts. let same : whole ≡ bytes = some_is whole bytes (sym is ∙ is') in absurd (none driver (subst (λ (b : List ℕ). Fronts b driver) (sym same) fronts));
+    told = λ bytes driver is' fronts. let same : whole ≡ bytes = same_bytes whole bytes (sym is ∙ is') in absurd (none driver (subst (λ (b : List ℕ). Fronts b driver) (sym same) fronts));
   }
-    where
-      some_is : (a b : List ℕ) → Some a ≡ Some b → a ≡ b
-      some_is a b same = cc
 
   pub opening : (look : Look) (bytes : List ℕ) (reply : Reply) (p : Place) (x : LogItem) (left : List LogItem) → Base j p → KnowsAt j (Opening look) bytes p → AnswersIn (asks_at j (Opening look) bytes) reply → MakesIn j (asks_at j (Opening look) bytes) reply (x ∷ left) → Steps j (Opening look) bytes reply p x left
   opening look bytes replies.Done p x left b k a ms = split _ x left ms (Steps j (Opening look) bytes replies.Done p) (λ legal.

@@ -1,11 +1,9 @@
 -- What a put does to the disk that was not begun, or that made no call: nothing.
 use Rattle.std.proofs.Common.{◌≡◌, inl, ℕ, Bool, true, false, cond, List, [], ◌∷◌, ◌++◌, filter, refl, sym, ap, subst, ◌∙◌}
 use Rattle.std.specs.List.{AllByRecursion}
-use Rattle.std.proofs.lemmas.List.Elements.{Contains-append_left}
 use Rattle.cache_types.specs.declared.answer.Answer.{Answer}
 use Rattle.cache_types.specs.declared.answer.Answer.TheVariants.{NoMemory}
 use Rattle.cache_types.specs.declared.key.Key.{Key}
-use Rattle.cache_types.specs.declared.name.Name.{Name}
 use Rattle.cache_types.specs.declared.name.Name.TheVariants.{Entry}
 use Rattle.cache_types.specs.declared.request.Request.{Request}
 use Rattle.cache_types.specs.declared.seat.Who.{Who}
@@ -17,8 +15,9 @@ use Rattle.file_log.specs.Disk.{Disk, file_of}
 use Rattle.file_log.specs.Effect.{applied}
 use Rattle.file_log.specs.Log.{History, with_items, own, is_own}
 use Rattle.file_log.specs.State.{State, disk_of}
-use Rattle.folder_store.specs.Entries.{with_item, EntriesAreWhole, IsPutItem, IsWholeAfter, ReplacesTold, OthersSpare}
+use Rattle.folder_store.specs.Entries.{with_item, EntriesAreWhole, IsWholeAfter, ReplacesTold, OthersSpare}
 use Rattle.folder_store.specs.Put.{PutsAlone, is_evict}
+use Rattle.folder_store.proofs.PutKnown.{put_item_on}
 use Rattle.folder_store.proofs.PutPlaces.{state_then}
 
 -- what the new items of a put do to the disk, alone and among others
@@ -43,19 +42,10 @@ module _ (me : Who) where
   later_rest item log true rests = rests.1
   later_rest item log false rests = rests
 
-  -- an entry that was put was put, also after one item more
-  still_put : (h : History) (item : LogItem) (root : ℕ) (key : Key) (bytes : List ℕ) → IsPutItem h.log root key bytes → IsPutItem (h.log ++ item ∷ []) root key bytes
-  still_put h item root key bytes p = record {
-    driver = p.driver;
-    blob = p.blob;
-    reads = p.reads;
-    put = (p.put.0, p.put.1, p.put.2, Contains-append_left h.log (item ∷ []) _ p.put.3);
-  }
-
   rests_whole : (h : History) (item : LogItem) → applied (disk_of h) item ≡ disk_of h → EntriesAreWhole h → IsWholeAfter h item
   rests_whole h item rests whole root key bytes is =
       let same : disk_of (with_item h item) ≡ disk_of h = ap (λ (s : State). s.disk) (state_then h (item ∷ [])) ∙ rests in
-      still_put h item root key bytes (whole root key bytes (sym (ap (λ (d : Disk). file_of d (Entry root key)) same) ∙ is))
+      put_item_on h.log (item ∷ []) root key bytes (whole root key bytes (sym (ap (λ (d : Disk). file_of d (Entry root key)) same) ∙ is))
 
   rests_keeps_whole : (h : History) (news : List LogItem) → AllByRecursion Rests (own me news) → EntriesAreWhole h → Keeps with_item IsWholeAfter me h news
   rests_keeps_whole h [] rests whole = tt

@@ -1,5 +1,5 @@
 -- Which answer a put ends with, that a fault is one that its log tells, and that want of memory is one once a file was changed.
-use Rattle.std.proofs.Common.{◌≡◌, ◌⊎◌, inl, inr, ℕ, Bool, true, false, cond, nat_lt, ◌||◌, List, [], ◌∷◌, ◌++◌, refl, sym, ap, subst, ◌∙◌}
+use Rattle.std.proofs.Common.{◌≡◌, inl, inr, ℕ, Bool, true, false, cond, nat_lt, ◌||◌, List, [], ◌∷◌, ◌++◌, refl, sym, ap, subst, ◌∙◌}
 use Rattle.std.specs.List.{list_any}
 use Rattle.std.proofs.lemmas.List.Folds.{list_any-append}
 use Rattle.cache_types.specs.declared.answer.Answer.{Answer}
@@ -25,7 +25,7 @@ use Rattle.folder_store.specs.declared.put.PutPhase.{PutPhase}
 use Rattle.folder_store.specs.declared.put.PutPhase.TheVariants.{Opening, Measuring, Reading, ReadingFront, Leaving, Evicting, Evicted, Making, Cutting, Writing, Renaming, ClosingEntry, ClosingTemp, Ended, Spent}
 use Rattle.folder_store.specs.Put.{IsPutAnswer, is_change, is_want}
 use Rattle.folder_store.specs.PutPhases.{asks_put, asks_put_in, asked_put, after_put_asking, too_long, closing, Fronted, Judged, NextPut, FedPut}
-use Rattle.folder_store.proofs.Items.{IsNoNote, IsQuiet, failure_of, any_fault, any_want, any_change, failures_told, tests_faults, tests_wants, refused_no_fault, refused_wants, quiet_changes}
+use Rattle.folder_store.proofs.Items.{IsNoNote, IsQuiet, any_fault, any_want, any_change, failures_told, tests_faults, tests_wants, refused_no_fault, refused_wants, quiet_changes}
 use Rattle.folder_store.proofs.PutCalls.{put_next_of}
 
 -- what a run ends with: an answer of a put, a fault exactly where a call failed, and want of memory only where a call was refused it, if a file was changed

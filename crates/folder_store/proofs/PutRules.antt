@@ -16,7 +16,7 @@ use Rattle.file_log.specs.Operation.{IsStill}
 use Rattle.file_log.proofs.Tidiness.{item_tidy}
 use Rattle.folder_store.specs.Entries.{folder_of, IsPutItem, is_end_of, EvictIsOpen}
 use Rattle.folder_store.specs.Put.{Leaves, LeavesElsewhere, TellsEvicts}
-use Rattle.folder_store.proofs.PutDisks.{Apart, still_file, still_spared, entry_no_temp, apart_elsewhere, apart_entry}
+use Rattle.folder_store.proofs.PutDisks.{same_bytes, Apart, still_file, still_spared, entry_no_temp, apart_elsewhere, apart_entry}
 use Rattle.folder_store.proofs.PutKnown.{Job, Place, step, base_after, told_after, put_item_on, Base, Passes, Goes, Rests, base_on, old}
 
 abbrev pub AreWhole : List LogItem → Disk → Type 0
@@ -54,9 +54,6 @@ module _ (j : Job) where
       → AreWhole log d → AreWhole (log ++ x ∷ []) d'
   whole_then log d d' x elsewhere here begun whole root key bytes e = put_item_on log (x ∷ []) root key bytes (by_test (same_name (Entry root key) entry) refl)
     where
-      some_is : (a b : List ℕ) → Some a ≡ Some b → a ≡ b
-      some_is a b same = cc
-
       root_is : Entry root key ≡ entry → j.root ≡ root
       root_is same = cc
 
@@ -65,7 +62,7 @@ module _ (j : Job) where
 
       at_entry : file_of d' entry ≡ Some bytes → (file_of d' entry ≡ file_of d entry) ⊎ (file_of d' entry ≡ Some j.item) → IsPutItem log j.root j.key bytes
       at_entry now (inl same) = whole j.root j.key bytes (sym same ∙ now)
-      at_entry now (inr new) = subst (IsPutItem log j.root j.key) (some_is j.item bytes (sym new ∙ now)) begun
+      at_entry now (inr new) = subst (IsPutItem log j.root j.key) (same_bytes j.item bytes (sym new ∙ now)) begun
 
       by_test : (t : Bool) → same_name (Entry root key) entry ≡ t → IsPutItem log root key bytes
       by_test true same =

@@ -1,8 +1,6 @@
 -- What an own item of a put has to keep, and what is known once its call is answered; and a call that failed.
 use Rattle.std.proofs.Common.{◌≡◌, inl, inr, ℕ, Bool, true, false, List, [], ◌∷◌, refl, sym, subst}
 use Rattle.cache_types.specs.declared.answer.Answer.{Answer}
-use Rattle.cache_types.specs.declared.name.Name.{Name}
-use Rattle.cache_types.specs.declared.name.Name.TheVariants.{Entry, Temp}
 use Rattle.file_log.specs.declared.item.LogItem.{LogItem}
 use Rattle.file_log.specs.declared.item.LogItem.TheVariants.{Failed}
 use Rattle.file_log.specs.declared.reply.Reply.{Reply}

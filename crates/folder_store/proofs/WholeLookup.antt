@@ -1,5 +1,5 @@
 -- What a whole lookup does, from its Begin to its End.
-use Rattle.std.proofs.Common.{◌≡◌, ◌≤◌, ◌⊎◌, inl, inr, ◌↔◌, ℕ, length, Bool, true, false, ◌||◌, List, [], ◌∷◌, ◌++◌, Option, Some, None, refl, sym, ap, subst, ◌∙◌, arith}
+use Rattle.std.proofs.Common.{◌≡◌, ◌≤◌, ◌⊎◌, inl, inr, ℕ, true, false, List, [], ◌∷◌, ◌++◌, Option, refl, sym, ap, subst, ◌∙◌, arith}
 use Rattle.cache_types.specs.declared.answer.Answer.{Answer}
 use Rattle.cache_types.specs.declared.answer.Answer.TheVariants as answers
 use Rattle.cache_types.specs.declared.key.Key.{Key}
@@ -12,8 +12,7 @@ use Rattle.file_log.specs.declared.item.LogItem.TheVariants.{Begin, End}
 use Rattle.file_log.specs.Legal.{Legal}
 use Rattle.file_log.specs.Log.{History, own}
 use Rattle.file_log.specs.Operation.{LeavesAll, is_fault, calls_in}
-use Rattle.file_log.specs.State.{State, after, state_of}
-use Rattle.file_log.specs.Told.{Grows}
+use Rattle.file_log.specs.State.{after, state_of}
 use Rattle.file_log.proofs.All.{none_keeps}
 use Rattle.files_api.specs.Drive.{items_of_all, IsEndOf, Refused, Unmade, Operated}
 use Rattle.folder_store.specs.declared.get.FolderGet.{FolderGet}
