@@ -43,7 +43,7 @@ module _ (me : Who) (request : Request) (root : ℕ) (driver : DriverKeys) (key 
   abbrev IsDone : Type 0
   IsDone = PutDone me request root driver key (blob_in request) old new before now answer
 
-  refused : Refused me old new answer → IsDone
+  pub refused : Refused me old new answer → IsDone
   refused r = record {
     kind = rw r.answer_is tt;
     cause = λ e. absurd (no_fault answer r.answer_is e);

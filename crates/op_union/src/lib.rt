@@ -1,6 +1,7 @@
 //! All operations: [`run_op`] does any request over any files.
 #![tactic(auto)]
 
+mod get;
 mod given;
 mod large;
 mod operation;

@@ -1,40 +1,19 @@
-ghost use Rattle.std.specs.Prelude.{◌≡◌, ◌≤◌};
+ghost use Rattle.std.specs.Prelude.{◌≡◌, ◌≤◌, ◌↔◌, IsTrue};
 ghost use Rattle.file_log.specs.Seat.{IsIdle};
-ghost use Rattle.folder_store.specs.Lookup.{LookedUp};
-ghost use Rattle.op_union.specs.Requests.{IsBuilt, Belongs, store_of as the_store, kept_after, Operates};
+ghost use Rattle.op_union.specs.Requests.{IsBuilt, IsPut, Belongs, store_of as the_store, kept_after, Operates};
 
+use crate::get::get_from_folder;
 use crate::put::put_in_folder;
 use crate::state::SeatState;
-use cache_types::{Answer, Driver, Key, Request, RoPlan, Store};
+use cache_types::{Answer, Request, Store};
 use files_api::Files;
-use folder_store::folder_get;
 use std::alloc::Global;
 
-/// Looks a key up in a folder store. The driver is copied, since the Begin keeps one.
-fn look_up<F: Files>(
-    alloc: Global,
-    files: &mut F,
-    store: Store,
-    driver: Driver,
-    key: Key,
-    ro: RoPlan,
-) -> Answer
-    requires { IsIdle (F.seen files.old) }
-    ensures done { LookedUp (F.me files.old) (Request.Get store driver key ro) store.root driver key (F.history files.old) (F.history files.new) (F.faults files.old) (F.faults files.new) result }
-    ensures idle { IsIdle (F.seen files.new) }
-    ensures me { F.me files.new ≡ F.me files.old }
-    ensures faults { F.faults files.old ≤ F.faults files.new }
+/// Whether a request is a put.
+fn is_put(request: &Request) -> bool
+    ensures { IsTrue result ↔ IsPut request.now }
 {
-    let Ok(told) = driver.copy() else {
-        return Answer::NoMemory;
-    };
-    let request = Request::Get {
-        store,
-        driver: told,
-        key,
-        ro,
-    };
-    folder_get(alloc, files, store.root, driver, key, request)
+    matches!(request, Request::Put { .. })
 }
 
 /// The store that a request speaks of, where it is one.
@@ -73,13 +52,9 @@ pub fn run_op<F: Files>(
     if let Some(store) = store_of(&request) {
         state.store = Some(store);
     }
-    match request {
-        Request::Get {
-            store,
-            driver,
-            key,
-            ro,
-        } => look_up(alloc, files, store, driver, key, ro),
-        other => put_in_folder(alloc, files, other),
+    if is_put(&request) {
+        put_in_folder(alloc, files, request)
+    } else {
+        get_from_folder(alloc, files, request)
     }
 }
