@@ -13,7 +13,7 @@ use Rattle.file_log.specs.declared.reply.Reply.{Reply}
 use Rattle.file_log.specs.declared.reply.Reply.TheVariants as replies
 use Rattle.file_log.specs.Operation.{IsStill}
 use Rattle.file_log.proofs.All.{seat_self}
-use Rattle.file_log.proofs.Tidiness.{item_tidy}
+use Rattle.disk_laws.proofs.Tidiness.{item_tidy}
 use Rattle.folder_store.specs.declared.put.PutPhase.TheVariants.{Evicting, Making, Cutting, Writing, Renaming, ClosingEntry, ClosingTemp, Ended}
 use Rattle.folder_store.specs.Entries.{folder_of, EvictIsOpen}
 use Rattle.folder_store.specs.Put.{TellsReplaced}

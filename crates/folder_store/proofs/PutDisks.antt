@@ -9,7 +9,7 @@ use Rattle.cache_types.specs.declared.seat.Who.{Who}
 use Rattle.cache_types.proofs.Names.{same_name_decides}
 use Rattle.file_log.specs.Disk.{Disk, bytes_in, file_of, with_slot, made, made_at, rewritten, renamed}
 use Rattle.file_log.specs.Operation.{IsStill}
-use Rattle.file_log.specs.Tidy.{IsTidy}
+use Rattle.disk_laws.specs.Tidy.{IsTidy}
 use Rattle.file_log.proofs.All.{seat_self}
 use Rattle.folder_store.specs.Entries.{IsSpared}
 use Rattle.folder_store.specs.Put.{LeavesElsewhere}

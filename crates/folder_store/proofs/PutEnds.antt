@@ -26,7 +26,7 @@ use Rattle.file_log.specs.Operation.{IsWithinRoot}
 use Rattle.file_log.specs.State.{State, after, state_of, disk_of}
 use Rattle.file_log.specs.Told.{OwnsToEnd}
 use Rattle.file_log.proofs.All.{seat_self}
-use Rattle.file_log.proofs.Tidiness.{tidy}
+use Rattle.disk_laws.proofs.Tidiness.{tidy}
 use Rattle.files_api.specs.Drive.{Runs, items_of_all, IsEndOf}
 use Rattle.item_frame.specs.Item.{Reads}
 use Rattle.item_frame.proofs.Laws.{Reads-from_as, at_least}

@@ -15,7 +15,7 @@ use Rattle.file_log.specs.Disk.{Disk, file_of}
 use Rattle.file_log.specs.Log.{is_own}
 use Rattle.file_log.specs.Operation.{IsStill}
 use Rattle.file_log.specs.State.{State, after}
-use Rattle.file_log.specs.Tidy.{IsTidy}
+use Rattle.disk_laws.specs.Tidy.{IsTidy}
 use Rattle.folder_store.specs.declared.put.PutPhase.{PutPhase}
 use Rattle.folder_store.specs.declared.put.PutPhase.TheVariants.{Opening, Measuring, Reading, ReadingFront, Leaving, Evicting, Evicted, Making, Cutting, Writing, Renaming, ClosingEntry, ClosingTemp, Ended, Spent}
 use Rattle.folder_store.specs.Entries.{folder_of, IsPutItem, NoEndOf, is_end_of, EvictIsOpen, IsSpared}

@@ -13,7 +13,7 @@ use Rattle.file_log.specs.declared.reply.Reply.TheVariants.{Done}
 use Rattle.file_log.specs.Disk.{Disk, file_of}
 use Rattle.file_log.specs.Effect.{applied}
 use Rattle.file_log.specs.Operation.{IsStill}
-use Rattle.file_log.proofs.Tidiness.{item_tidy}
+use Rattle.disk_laws.proofs.Tidiness.{item_tidy}
 use Rattle.folder_store.specs.Entries.{folder_of, IsPutItem, is_end_of, EvictIsOpen}
 use Rattle.folder_store.specs.Put.{Leaves, LeavesElsewhere, TellsEvicts}
 use Rattle.folder_store.proofs.PutDisks.{same_bytes, Apart, still_file, still_spared, entry_no_temp, apart_elsewhere, apart_entry}

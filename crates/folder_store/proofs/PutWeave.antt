@@ -24,9 +24,9 @@ use Rattle.file_log.specs.Exchange.{Answers, Makes, Exchange}
 use Rattle.file_log.specs.Legal.{IsLegal}
 use Rattle.file_log.specs.Log.{is_own, is_stop, own, NoStop}
 use Rattle.file_log.specs.Operation.{IsStill}
-use Rattle.file_log.specs.Tidy.{IsTidy}
+use Rattle.disk_laws.specs.Tidy.{IsTidy}
 use Rattle.file_log.proofs.All.{seat_self}
-use Rattle.file_log.proofs.Tidiness.{item_tidy}
+use Rattle.disk_laws.proofs.Tidiness.{item_tidy}
 use Rattle.files_api.specs.declared.machine.Step.{Step}
 use Rattle.files_api.specs.declared.machine.Step.TheVariants as steps
 use Rattle.files_api.specs.Drive.{Runs, items_of_all, IsEndOf}
@@ -48,7 +48,7 @@ use Rattle.folder_store.proofs.PutMakes.{IsPlain, none_made}
 use Rattle.folder_store.proofs.PutLooks.{opening, measuring, reading, reading_front, leaving}
 use Rattle.folder_store.proofs.PutChanges.{evicting, making, cutting, renaming, closing_entry, closing_temp}
 use Rattle.folder_store.proofs.PutWrites.{Doing, Moved, writing, writing_starts}
-use Rattle.file_log.proofs.Slots.{other_slots}
+use Rattle.disk_laws.proofs.Slots.{other_slots}
 use Rattle.folder_store.proofs.Still.{all_as_own}
 
 -- ---- what is known along the run

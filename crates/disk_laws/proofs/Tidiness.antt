@@ -17,7 +17,7 @@ use Rattle.file_log.specs.Disk.{Disk, Start, number_from, opening, with_slot, na
 use Rattle.file_log.specs.Effect.{applied, after_call, done_call}
 use Rattle.file_log.specs.Log.{History}
 use Rattle.file_log.specs.State.{State, first, after, disk_of}
-use Rattle.file_log.specs.Tidy.{IsTidy}
+use Rattle.disk_laws.specs.Tidy.{IsTidy}
 use Rattle.file_log.specs.Writing.{written}
 
 is_name : (a b : Name) → same_name a b ≡ true → a ≡ b
