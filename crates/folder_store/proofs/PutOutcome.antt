@@ -27,6 +27,7 @@ use Rattle.folder_store.specs.Put.{IsPutAnswer, is_change, is_want}
 use Rattle.folder_store.specs.PutPhases.{asks_put, asks_put_in, asked_put, after_put_asking, too_long, closing, Fronted, Judged, NextPut, FedPut}
 use Rattle.folder_store.proofs.Items.{IsNoNote, IsQuiet, any_fault, any_want, any_change, failures_told, tests_faults, tests_wants, refused_no_fault, refused_wants, quiet_changes}
 use Rattle.folder_store.proofs.PutCalls.{put_next_of}
+use Rattle.folder_store.proofs.PutSteps.{AnswersIn}
 
 -- what a run ends with: an answer of a put, a fault exactly where a call failed, and want of memory only where a call was refused it, if a file was changed
 pub record Outcome (Changed : Type 0) (answer : Answer) (made : List LogItem) (xs : List Exchange) : Type 0 where
@@ -101,11 +102,6 @@ Leads stage replies.Failed next = next ≡ Settled answers.FilesFault
 Leads stage replies.NoMemory next = next ≡ Settled answers.NoMemory
 Leads stage reply next = LeadsOn stage next
 
--- a reply that the step has
-abbrev IsReplyTo : Step → Reply → Type 0
-IsReplyTo (Ask call) reply = Answers true call reply
-IsReplyTo (Done answer) reply = ⊥
-
 fronted : (bytes : List ℕ) (q : PutPhase) → Fronted bytes q → LeadsOn Early (stage q)
 fronted bytes (Evicting driver) f = tt
 fronted bytes (Making true) f = tt
@@ -122,7 +118,7 @@ measured First length false = tt
 measured Second length true = tt
 measured Second length false = tt
 
-leads : (root : ℕ) (key : Key) (item : List ℕ) (driver : DriverKeys) (p : PutPhase) (reply : Reply) (q : PutPhase) → IsReplyTo (asks_put_in root key item p) reply → NextPut driver (after_put_asking p) reply q → Leads (stage p) reply (stage q)
+leads : (root : ℕ) (key : Key) (item : List ℕ) (driver : DriverKeys) (p : PutPhase) (reply : Reply) (q : PutPhase) → AnswersIn (asks_put_in root key item p) reply → NextPut driver (after_put_asking p) reply q → Leads (stage p) reply (stage q)
 leads root key item driver (Opening First) replies.Done q fits e = rw e tt
 leads root key item driver (Opening First) replies.Missing q fits e = rw e tt
 leads root key item driver (Opening First) replies.Failed q fits e = rw e refl
@@ -272,7 +268,7 @@ ends_from me m last [] answer run =
 ends_from me m last (x ∷ xs) answer run =
     let n = run.3.0 in
     step me x.call x.items (items_of_all xs) x xs answer (stage m.phase) (stage n.phase) x.reply (subst (AsksAt (stage m.phase)) run.0 (asks_at m.root m.key m.item m.phase)) run.1 run.2 refl
-    (leads m.root m.key m.item m.driver m.phase x.reply n.phase (subst (λ (s : Step). IsReplyTo s x.reply) (sym run.0) run.1) (put_next_of m n m.phase x.reply refl run.3.1))
+    (leads m.root m.key m.item m.driver m.phase x.reply n.phase (subst (λ (s : Step). AnswersIn s x.reply) (sym run.0) run.1) (put_next_of m n m.phase x.reply refl run.3.1))
     (ends_from me n last xs answer run.3.2)
 
 -- what a whole run ends with
