@@ -1,7 +1,7 @@
 use crate::entries::{K1, K1_TEXT, ME};
 use crate::turns::{hit, miss, put};
 use cache_types::{Name, Who};
-use memory_files::LoneFiles;
+use memory_files::MemFiles;
 use std::test::Fail;
 
 /// A seat of another process.
@@ -15,13 +15,14 @@ const NEXT: Who = Who {
 #[test]
 fn a_put_that_was_stopped_does_no_harm(rt: HostRuntime) -> Result<(), Fail> {
     let alloc = rt.alloc();
-    let mut files = LoneFiles::on_disk(alloc, ME, Vec::new(alloc))?;
+    let mut files = MemFiles::new(alloc, ME)?;
     let turn = put("--id=d", K1_TEXT, b"abc", b"stored\n");
     assert!(rt; turn.take(alloc, &mut files)?);
     let whole = files.world().log_len();
     let mut hits = 0;
     for n in 0..=whole {
-        let mut left = files.stopped_after(alloc, n, NEXT)?;
+        assert!(rt; files.may_follow(n, NEXT)?);
+        let mut left = files.stopped_after(n, NEXT)?;
         if miss("--id=d", K1_TEXT).take(alloc, &mut left)? {
             assert!(rt; turn.take(alloc, &mut left)?, "stopped after {n}");
         } else {
@@ -40,10 +41,12 @@ fn a_put_that_was_stopped_does_no_harm(rt: HostRuntime) -> Result<(), Fail> {
 #[test]
 fn what_a_stopped_put_wrote_is_cut(rt: HostRuntime) -> Result<(), Fail> {
     let alloc = rt.alloc();
-    let mut files = LoneFiles::on_disk(alloc, ME, Vec::new(alloc))?;
+    let mut files = MemFiles::new(alloc, ME)?;
     assert!(rt; put("--id=d", K1_TEXT, b"abc", b"stored\n").take(alloc, &mut files)?);
     // Its Begin, two openings of the entry, one of the temporary file, and the cut, come before the bytes.
-    let mut left = files.stopped_after(alloc, 5 + 29, NEXT)?;
+    let n = 5 + 29;
+    assert!(rt; files.may_follow(n, NEXT)?);
+    let mut left = files.stopped_after(n, NEXT)?;
     let temp = left.world().file(&Name::Temp { root: 0, key: K1 })?;
     assert!(rt; temp.is_some_and(|temp| temp.len() == 29));
     assert!(rt; put("--id=d", K1_TEXT, b"xy", b"stored\n").take(alloc, &mut left)?);
