@@ -4,6 +4,9 @@
 
 mod streams;
 
+ghost use Rattle.std.specs.Prelude.{◌≡◌, ◌↔◌, IfOk, map, string_bytes};
+ghost use Rattle.cache_main.specs.Top.{HasNoReading, HasBadKey};
+
 use cache_main::{plan_of, run};
 use cache_types::{NoMemory, Who};
 use host_files::{HostFiles, HostSink, HostSource};
@@ -36,7 +39,10 @@ fn words_of(rt: &HostRuntime) -> Result<Vec<String>, Status> {
 }
 
 /// Does what the words ask for, over the real files under these paths.
-fn serve(rt: &HostRuntime, words: &[String], paths: Paths) -> Result<Status, NoMemory> {
+fn serve(rt: &HostRuntime, words: &[String], paths: Paths) -> Result<Status, NoMemory>
+    ensures usage { IfOk result (λ status. (status ≡ Status.Usage) ↔ HasNoReading (map string_bytes words.now)) }
+    ensures bad_key { IfOk result (λ status. (status ≡ Status.BadKey) ↔ HasBadKey (map string_bytes words.now)) }
+{
     let alloc = rt.alloc();
     let mut files = HostFiles::new(alloc, rt.clone()?, ME, paths)?;
     let mut source = HostSource::new(alloc, rt.clone()?);
