@@ -5,7 +5,8 @@
 mod streams;
 
 ghost use Rattle.std.specs.Prelude.{◌≡◌, ◌↔◌, IfOk, map, string_bytes};
-ghost use Rattle.cache_main.specs.Top.{HasNoReading, HasBadKey};
+ghost use Rattle.cache_main.specs.Top.{HasBadKey};
+ghost use Rattle.cache_main.specs.Words.{HasNoReading};
 
 use cache_main::{plan_of, run};
 use cache_types::{NoMemory, Who};
