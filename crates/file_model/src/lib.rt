@@ -5,6 +5,7 @@
 mod book;
 mod file;
 mod find;
+mod listing;
 mod operations;
 mod parts;
 mod piece;

@@ -17,6 +17,7 @@ ghost use Rattle.file_model.specs.Told.{with_news};
 use crate::book::Book;
 use crate::file::File;
 use crate::find::{empty, empty_all, file_in, forget, free, free_all, lock_of, number_of};
+use crate::listing::listing;
 use crate::parts::{NamedFile, OpenSlot, TakenLock};
 use crate::piece::Run;
 use cache_types::{Bytes, Name, NoMemory, Who};
@@ -162,6 +163,10 @@ impl Tables {
                 let file = file_in(&self.slots, who, *slot);
                 let part = read_at(alloc, bytes_in(&self.files, file), *at, *n)?;
                 Ok(Reply::Got(part))
+            }
+            Call::ListFolder { root, byte } => {
+                let keys = listing(alloc, &self.names, *root, *byte)?;
+                Ok(Reply::Keys(keys))
             }
             Call::Now => Ok(Reply::Number(clock)),
             _ => Ok(Reply::Done),
