@@ -1,12 +1,10 @@
 -- What each call that is answered makes, and how it changes what the seat has seen.
-use Rattle.std.proofs.Common.{◌≡◌, ◌<◌, ℕ, ◌+◌, cond, nat_eq, nat_lt, ◌&&◌, Bool, true, false, List, [], ◌∷◌, ◌++◌, fold, length, take, Option, Some, None, refl, sym, ap, subst, ◌∙◌}
-use Rattle.std.specs.Prelude.{is_some, IsSome}
-use Rattle.std.proofs.lemmas.Bool.{eqb-true, eq-eqb, lt-ltb}
-use Rattle.std.proofs.Math.Dec.{eqb-suc-zero}
+use Rattle.std.proofs.Common.{◌≡◌, ◌<◌, ℕ, ◌+◌, cond, nat_eq, nat_lt, ◌&&◌, Bool, true, false, List, [], ◌∷◌, fold, length, take, Option, Some, None, refl, sym, ap, subst, ◌∙◌}
+use Rattle.std.specs.Prelude.{is_some}
+use Rattle.std.proofs.lemmas.Bool.{eqb-true, lt-ltb}
 use Rattle.cache_types.specs.declared.seat.Who.{Who}
 use Rattle.cache_types.specs.declared.name.Name.{Name}
 use Rattle.cache_types.specs.Seats.{same_seat}
-use Rattle.cache_types.specs.Names.{same_name}
 use Rattle.cache_types.proofs.Names.{same_name_decides}
 use Rattle.file_log.specs.declared.call.Call.{Call}
 use Rattle.file_log.specs.declared.call.Call.TheVariants as calls
@@ -14,13 +12,12 @@ use Rattle.file_log.specs.declared.note.Note.{Note}
 use Rattle.file_log.specs.declared.note.Note.TheVariants as notes
 use Rattle.file_log.specs.declared.reply.Reply.{Reply}
 use Rattle.file_log.specs.declared.reply.Reply.TheVariants as replies
-use Rattle.file_log.specs.declared.item.LogItem.{LogItem}
 use Rattle.file_log.specs.declared.item.LogItem.TheVariants as items
 use Rattle.file_log.specs.Disk.{Disk, with_slot, made_at, made, locked, rewritten, renamed}
 use Rattle.file_log.specs.Effect.{applied, after_call}
-use Rattle.file_log.specs.Exchange.{Answers, Makes, MayFail, NoteMayLack, byte_items, items_done, item_of_note}
-use Rattle.file_log.specs.Legal.{Legal, IsLegal, IsReply, IsOpen}
-use Rattle.file_log.specs.Seat.{Seen, Course, IsSeen, IsFilled, SlotFits, course_after, course_of, filled_by, seen_after}
+use Rattle.file_log.specs.Exchange.{Answers, Makes, NoteMayLack, byte_items, items_done, item_of_note}
+use Rattle.file_log.specs.Legal.{Legal, IsLegal, IsReply}
+use Rattle.file_log.specs.Seat.{Seen, Course, IsSeen, SlotFits, course_after, course_of, seen_after}
 use Rattle.file_log.specs.State.{state_of, disk_of}
 use Rattle.file_log.specs.Writing.{written}
 use Rattle.file_log.proofs.All.{seat_self}
