@@ -9,6 +9,7 @@ mod listing;
 mod operations;
 mod parts;
 mod piece;
+mod replay;
 mod seen;
 mod step;
 mod tables;
