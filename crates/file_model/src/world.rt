@@ -533,7 +533,7 @@ impl World {
     }
 
     /// The allocator of all that the world keeps.
-    pub(crate) fn alloc(&self) -> Global {
+    pub fn alloc(&self) -> Global {
         self.alloc
     }
 

@@ -57,19 +57,19 @@ slot_set d me slot file at small =
     by_place true here = ap (λ (b : Bool). b && is_some file) (ap (λ (n : ℕ). nat_lt n 8) (sym (eqb-true slot at here)) ∙ lt-ltb slot 8 small)
     by_place false other = refl
 
-write_slots : (d : Disk) (file : Option ℕ) (change : List ℕ → List ℕ) → (rewritten d file change).slots ≡ d.slots
+pub write_slots : (d : Disk) (file : Option ℕ) (change : List ℕ → List ℕ) → (rewritten d file change).slots ≡ d.slots
 write_slots d None change = refl
 write_slots d (Some f) change = refl
 
-lock_slots : (d : Disk) (me : Who) (slot : ℕ) (file : Option ℕ) → (locked d me slot file).slots ≡ d.slots
+pub lock_slots : (d : Disk) (me : Who) (slot : ℕ) (file : Option ℕ) → (locked d me slot file).slots ≡ d.slots
 lock_slots d me slot None = refl
 lock_slots d me slot (Some f) = refl
 
-rename_slots : (d : Disk) (from to : Name) (file : Option ℕ) → (renamed d file from to).slots ≡ d.slots
+pub rename_slots : (d : Disk) (from to : Name) (file : Option ℕ) → (renamed d file from to).slots ≡ d.slots
 rename_slots d from to None = refl
 rename_slots d from to (Some f) = refl
 
-made_slots : (d : Disk) (name : Name) (file : Option ℕ) → (made_at file d name).slots ≡ d.slots
+pub made_slots : (d : Disk) (name : Name) (file : Option ℕ) → (made_at file d name).slots ≡ d.slots
 made_slots d name None = refl
 made_slots d name (Some f) = refl
 
