@@ -6,7 +6,7 @@ use Rattle.cache_types.specs.declared.seat.Who.{Who}
 use Rattle.cache_types.specs.declared.name.Name.{Name}
 use Rattle.cache_types.specs.Names.{same_name}
 use Rattle.cache_types.proofs.Names.{same_name_decides}
-use Rattle.file_log.specs.Disk.{Disk, made_at, with_slot}
+use Rattle.file_log.specs.Disk.{Disk, created, made_at, with_slot}
 use Rattle.file_model.specs.declared.parts.NamedFile.{NamedFile}
 use Rattle.file_model.specs.declared.parts.OpenSlot.{OpenSlot}
 use Rattle.file_model.specs.declared.parts.TakenLock.{TakenLock}
@@ -16,12 +16,12 @@ use Rattle.file_model.specs.Tables.{disk_from}
 same_name-self : (n : Name) → same_name n n ≡ true
 same_name-self n = (same_name_decides n n).1 refl
 
--- an empty file more
-get_or-one_more : (files : List (List ℕ)) (f : ℕ) → get_or (files ++ [] ∷ []) f [] ≡ cond (nat_eq (length files) f) [] (get_or files f [])
-get_or-one_more [] zero = refl
-get_or-one_more [] (suc f) = rw (eqb-zero-suc f) refl
-get_or-one_more (x ∷ xs) zero = rw (eqb-suc-zero (length xs)) refl
-get_or-one_more (x ∷ xs) (suc f) = get_or-one_more xs f ∙ ap (λ (b : Bool). cond b [] (get_or xs f [])) (sym (eqb-suc-suc (length xs) f))
+-- a file more
+get_or-one_more : (files : List (List ℕ)) (bytes : List ℕ) (f : ℕ) → get_or (files ++ bytes ∷ []) f [] ≡ cond (nat_eq (length files) f) bytes (get_or files f [])
+get_or-one_more [] bytes zero = refl
+get_or-one_more [] bytes (suc f) = rw (eqb-zero-suc f) refl
+get_or-one_more (x ∷ xs) bytes zero = rw (eqb-suc-zero (length xs)) refl
+get_or-one_more (x ∷ xs) bytes (suc f) = get_or-one_more xs bytes f ∙ ap (λ (b : Bool). cond b bytes (get_or xs f [])) (sym (eqb-suc-suc (length xs) f))
 
 abbrev pub named_file : Name → ℕ → NamedFile
 named_file name file = record { name = name; file = file }
@@ -29,17 +29,30 @@ named_file name file = record { name = name; file = file }
 abbrev pub open_slot : Who → ℕ → ℕ → OpenSlot
 open_slot who slot file = record { who = who; slot = slot; file = file }
 
+-- a name with a new file
+placed : (names : List NamedFile) (files : List (List ℕ)) (slots : List OpenSlot) (locks : List TakenLock) (name : Name) (bytes : List ℕ)
+    → disk_from (named_file name (length files) ∷ names) (files ++ bytes ∷ []) slots locks ≡ created (disk_from names files slots locks) name bytes
+placed names files slots locks name bytes =
+    let a : (λ f. get_or (files ++ bytes ∷ []) f []) ≡ (λ f. cond (nat_eq (length files) f) bytes (get_or files f [])) = fun_ext (λ f. get_or-one_more files bytes f) in
+    let b : length (files ++ bytes ∷ []) ≡ length files + 1 = length-append files (bytes ∷ []) in
+    let shape : ℕ → (ℕ → List ℕ) → Disk = λ n fs. record { names = number_of (named_file name (length files) ∷ names); count = n; files = fs; slots = file_in slots; locks = lock_of locks } in
+    ap (λ (n : ℕ). shape n (λ f. get_or (files ++ bytes ∷ []) f [])) b ∙ ap (λ (fs : ℕ → List ℕ). shape (length files + 1) fs) a
+
+-- the same of lists that are these
+pub placed_in : (names names' : List NamedFile) (files files' : List (List ℕ)) (slots : List OpenSlot) (locks : List TakenLock) (name : Name) (bytes : List ℕ)
+    → names' ≡ named_file name (length files) ∷ names → files' ≡ files ++ bytes ∷ [] → disk_from names' files' slots locks ≡ created (disk_from names files slots locks) name bytes
+placed_in names names' files files' slots locks name bytes p q =
+    ap (λ (n : List NamedFile). disk_from n files' slots locks) p
+    ∙ ap (λ (f : List (List ℕ)). disk_from (named_file name (length files) ∷ names) f slots locks) q
+    ∙ placed names files slots locks name bytes
+
 -- a name with a new file, in a slot
-pub created : (names : List NamedFile) (files : List (List ℕ)) (slots : List OpenSlot) (locks : List TakenLock) (who : Who) (slot : ℕ) (name : Name) (o : Option ℕ) → o ≡ None
+pub opened_new : (names : List NamedFile) (files : List (List ℕ)) (slots : List OpenSlot) (locks : List TakenLock) (who : Who) (slot : ℕ) (name : Name) (o : Option ℕ) → o ≡ None
     → disk_from (named_file name (length files) ∷ names) (files ++ [] ∷ []) (open_slot who slot (length files) ∷ slots) locks
     ≡ with_slot (made_at o (disk_from names files slots locks) name) who slot ((made_at o (disk_from names files slots locks) name).names name)
-created names files slots locks who slot name o none =
+opened_new names files slots locks who slot name o none =
     let d = disk_from names files slots locks in
-    let a : (λ f. get_or (files ++ [] ∷ []) f []) ≡ (λ f. cond (nat_eq (length files) f) [] (get_or files f [])) = fun_ext (λ f. get_or-one_more files f) in
-    let b : length (files ++ [] ∷ []) ≡ length files + 1 = length-append files ([] ∷ []) in
     let e : Some (length files) ≡ cond (same_name name name) (Some (length files)) (number_of names name) = ap (λ (b : Bool). cond b (Some (length files)) (number_of names name)) (sym (same_name-self name)) in
-    let shape : ℕ → (ℕ → List ℕ) → Option ℕ → Disk = λ n fs o. with_slot (record { names = number_of (named_file name (length files) ∷ names); count = n; files = fs; slots = file_in slots; locks = lock_of locks }) who slot o in
-    ap (λ (n : ℕ). shape n (λ f. get_or (files ++ [] ∷ []) f []) (Some (length files))) b
-    ∙ ap (λ (fs : ℕ → List ℕ). shape (length files + 1) fs (Some (length files))) a
-    ∙ ap (λ (o : Option ℕ). shape (length files + 1) (λ f. cond (nat_eq (length files) f) [] (get_or files f [])) o) e
-    ∙ ap (λ (o : Option ℕ). with_slot (made_at o d name) who slot ((made_at o d name).names name)) (sym none)
+    ap (λ (x : Disk). with_slot x who slot (Some (length files))) (placed names files slots locks name [])
+    ∙ ap (λ (f : Option ℕ). with_slot (created d name []) who slot f) e
+    ∙ ap (λ (f : Option ℕ). with_slot (made_at f d name) who slot ((made_at f d name).names name)) (sym none)

@@ -9,6 +9,7 @@ use Rattle.cache_types.specs.declared.seat.Who.{Who}
 use Rattle.cache_types.specs.Seats.{same_seat}
 use Rattle.file_log.specs.declared.item.LogItem.{LogItem}
 use Rattle.file_log.specs.declared.item.LogItem.TheVariants.{Byte}
+use Rattle.file_log.specs.declared.item.LogItem.TheVariants as items
 use Rattle.file_log.specs.Disk.{Disk, rewritten}
 use Rattle.file_log.specs.Effect.{applied}
 use Rattle.file_log.specs.Exchange.{byte_items}
@@ -20,6 +21,7 @@ use Rattle.file_log.specs.Writing.{written}
 use Rattle.file_log.proofs.Logs.{All-append}
 use Rattle.file_log.proofs.Writing.{written-append}
 use Rattle.file_model.specs.Following.{Follows}
+use Rattle.file_model.specs.Held.{IsPlain}
 
 -- the parts of a state go their own ways
 disk_after : (s : State) (news : List LogItem) → (fold after s news).disk ≡ fold applied s.disk news
@@ -70,6 +72,26 @@ follows_still h d d' halted courses courses' log' f e disk same =
 pub either : (b : Bool) (c : Course) → cond b c c ≡ c
 either true c = refl
 either false c = refl
+
+-- ---- items that change no file, and open or end no operation
+
+pub plain_disk : (d : Disk) (item : LogItem) → IsPlain item → d ≡ applied d item
+plain_disk d (items.Queued process ticket request) p = refl
+plain_disk d (items.Taken who ticket) p = refl
+plain_disk d (items.Evict who store driver key) p = refl
+plain_disk d item p = absurd p
+
+pub plain_stops : (item : LogItem) → IsPlain item → StopsNone (item ∷ [])
+plain_stops (items.Queued process ticket request) p = λ halted process. refl
+plain_stops (items.Taken who ticket) p = λ halted process. refl
+plain_stops (items.Evict who store driver key) p = λ halted process. refl
+plain_stops item p = absurd p
+
+pub plain_course : (w : Who) (c : Course) (item : LogItem) → IsPlain item → c ≡ course_after w c item
+plain_course w c (items.Queued process ticket request) p = refl
+plain_course w c (items.Taken who ticket) p = sym (either (same_seat w who) c)
+plain_course w c (items.Evict who store driver key) p = sym (either (same_seat w who) c)
+plain_course w c item p = absurd p
 
 -- ---- bytes written one after another
 

@@ -1,5 +1,5 @@
 -- Bytes that are written one after another.
-use Rattle.std.proofs.Common.{◌≡◌, ◌<◌, ◌∙◌, ℕ, zero, suc, ◌+◌, List, [], ◌∷◌, ◌++◌, length, get_or, take, refl, ap, arith}
+use Rattle.std.proofs.Common.{◌≡◌, ◌<◌, ◌∙◌, ℕ, zero, suc, ◌+◌, List, [], ◌∷◌, ◌++◌, length, get_or, take, refl, ap, sym, arith}
 use Rattle.cache_types.specs.declared.seat.Who.{Who}
 use Rattle.file_log.specs.declared.item.LogItem.{LogItem}
 use Rattle.file_log.specs.declared.item.LogItem.TheVariants.{Byte}
@@ -26,3 +26,13 @@ byte_items-next who slot at (suc n) (suc m) (value ∷ values) less e =
     let there : at + 1 + n ≡ at + suc n = omega arith in
     ap (λ (log : List LogItem). Byte who slot at value ∷ log)
     (byte_items-next who slot (at + 1) n m values (omega (arith, less)) (omega (arith, e)) ∙ ap (λ (k : ℕ). byte_items who slot (at + 1) (take n values) ++ Byte who slot k (get_or values n 0) ∷ []) there)
+
+-- the first of them
+pub byte_items-take : (who : Who) (slot at n : ℕ) (values : List ℕ) → byte_items who slot at (take n values) ≡ take n (byte_items who slot at values)
+byte_items-take who slot at zero values = ap (λ (vs : List ℕ). byte_items who slot at vs) (none values) ∙ sym (none (byte_items who slot at values))
+  where
+    none : {A : Type 0} (xs : List A) → take zero xs ≡ []
+    none [] = refl
+    none (x ∷ xs) = refl
+byte_items-take who slot at (suc n) [] = refl
+byte_items-take who slot at (suc n) (value ∷ values) = ap (λ (log : List LogItem). Byte who slot at value ∷ log) (byte_items-take who slot (at + 1) n values)

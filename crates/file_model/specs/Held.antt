@@ -1,5 +1,5 @@
 -- What a world shows.
-use Rattle.std.specs.Prelude.{ℕ, List}
+use Rattle.std.specs.Prelude.{ℕ, List, take}
 use Rattle.file_log.specs.declared.item.LogItem.{LogItem}
 use Rattle.file_log.specs.declared.item.LogItem.TheVariants as items
 use Rattle.file_log.specs.Log.{History, with_items}
@@ -12,6 +12,10 @@ pub record Held : Type 0 where
 -- with more items
 abbrev pub told : Held → List LogItem → Held
 told held news = record held { past = with_items held.past news }
+
+-- with so many of its items alone, the first
+abbrev pub first_of : ℕ → Held → Held
+first_of n held = record held { past = record { start = held.past.start; log = take n held.past.log } }
 
 -- an item that is no seat's and changes no file, or tells of an entry that goes
 abbrev pub IsPlain : LogItem → Type 0

@@ -1,4 +1,5 @@
 pub mod Find
+pub mod Listing
 pub mod Pieces
 pub mod Told
 pub mod Books

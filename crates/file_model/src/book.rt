@@ -87,6 +87,13 @@ impl Book {
         self.room -= 1;
     }
 
+    /// The pieces, and the run that grows after them, if there is one.
+    pub fn pieces(&self) -> (&[Piece], &Option<Run>)
+        ensures { self.now.items ≡ items_of_pieces result.0.now ++ items_grown result.1.now }
+    {
+        (&self.pieces, &self.growing)
+    }
+
     /// How many items there are, or the greatest number where there are more.
     pub fn len(&self) -> u64
         ensures { result ≡ min (length self.now.items) (2 ^ 64 - 1) }
@@ -180,7 +187,7 @@ fn len_of_run(run: &Run) -> u64
 }
 
 /// How many items a piece stands for.
-fn len_of_piece(piece: &Piece) -> u64
+pub fn len_of_piece(piece: &Piece) -> u64
     ensures { result ≡ length (items_of_piece piece.now) }
 {
     match piece {

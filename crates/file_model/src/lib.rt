@@ -5,9 +5,11 @@
 mod book;
 mod file;
 mod find;
+mod listing;
 mod operations;
 mod parts;
 mod piece;
+mod replay;
 mod seen;
 mod step;
 mod tables;

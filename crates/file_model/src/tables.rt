@@ -1,25 +1,31 @@
-ghost use Rattle.std.specs.Prelude.{◌≡◌, ◌≤◌, ◌<◌, ◌+◌, ◌∷◌, ◌++◌, [], ℕ, None, Some, OnOk, OnErr, IfOk, IfSome, IsSome, take, drop, get_or, length, map, if◌then◌else◌};
+ghost use Rattle.std.specs.Prelude.{◌≡◌, ◌≤◌, ◌<◌, ◌+◌, ◌∷◌, ◌++◌, [], ℕ, List, None, Some, OnOk, OnErr, IfOk, IfSome, IsSome, take, drop, get_or, length, map, if◌then◌else◌};
 ghost use Rattle.cache_types.specs.declared.seat.Who.{Who};
+ghost use Rattle.std.specs.Vec.{vec_len, vec_capacity};
+ghost use Rattle.cache_types.specs.declared.name.Name.TheVariants.{Ro, RoIdx};
 ghost use Rattle.file_log.specs.declared.call.Call.TheVariants.{OpenOld, OpenNew, TryLock, Cut, Close};
 ghost use Rattle.file_log.specs.declared.item.LogItem.TheVariants.{Byte};
 ghost use Rattle.file_log.specs.declared.reply.Reply.TheVariants.{Done, Held};
-ghost use Rattle.file_log.specs.Disk.{Disk, opening, bytes_in as the_bytes, rewritten, renamed, stopped, file_of};
+ghost use Rattle.file_log.specs.Disk.{Disk, opening, bytes_in as the_bytes, rewritten, renamed, stopped, created, listed, file_of};
 ghost use Rattle.file_log.specs.Effect.{after_call, done_call};
 ghost use Rattle.file_log.specs.Legal.{IsReply, is_slot_held};
 ghost use Rattle.file_log.specs.Writing.{written};
 ghost use Rattle.file_model.specs.Calls.{SlotsFit, MakesOne, TellsClock};
 ghost use Rattle.file_model.specs.Find.{Once};
 ghost use Rattle.file_model.specs.Pieces.{items_of_run};
+ghost use Rattle.file_model.specs.declared.parts.OpenSlot.{OpenSlot};
+ghost use Rattle.file_model.specs.declared.parts.TakenLock.{TakenLock};
 ghost use Rattle.file_model.specs.Room.{closes, closes_by};
 ghost use Rattle.file_model.specs.Starts.{named_from};
+ghost use Rattle.file_model.specs.Tables.{disk_from};
 ghost use Rattle.file_model.specs.Told.{with_news};
 
 use crate::book::Book;
 use crate::file::File;
 use crate::find::{empty, empty_all, file_in, forget, free, free_all, lock_of, number_of};
+use crate::listing::listing;
 use crate::parts::{NamedFile, OpenSlot, TakenLock};
 use crate::piece::Run;
-use cache_types::{Bytes, Name, NoMemory, Who};
+use cache_types::{Bytes, Name, NoMemory, Text, Who};
 use file_log::{Call, Reply};
 use std::alloc::Global;
 
@@ -77,6 +83,21 @@ fn add_file(
     files.push(File::new(alloc))?;
     slots.insert(0, OpenSlot { who, slot, file })?;
     Ok(())
+}
+
+/// Gives a name a file, in memory that was taken for it.
+fn place(names: &mut Vec<NamedFile>, files: &mut Vec<File>, name: Name, file: File)
+    requires room { vec_len names.old < vec_capacity names.old }
+    requires place { vec_len files.old < vec_capacity files.old }
+    ensures disk { (slots : List OpenSlot) (locks : List TakenLock) → disk_from names.new.items files.new.items slots locks ≡ created (disk_from names.old.items files.old.items slots locks) name file }
+    ensures one_name { vec_len names.new ≡ vec_len names.old + 1 }
+    ensures one_file { vec_len files.new ≡ vec_len files.old + 1 }
+    ensures names_room { vec_capacity names.old ≤ vec_capacity names.new }
+    ensures files_room { vec_capacity files.old ≤ vec_capacity files.new }
+{
+    let number = files.len();
+    let _named = names.insert(0, NamedFile { name, file: number });
+    let _placed = files.push(file);
 }
 
 /// Names with the numbers of their files, which are numbered in their order.
@@ -162,6 +183,10 @@ impl Tables {
                 let file = file_in(&self.slots, who, *slot);
                 let part = read_at(alloc, bytes_in(&self.files, file), *at, *n)?;
                 Ok(Reply::Got(part))
+            }
+            Call::ListFolder { root, byte } => {
+                let keys = listing(alloc, &self.names, *root, *byte)?;
+                Ok(Reply::Keys(keys))
             }
             Call::Now => Ok(Reply::Number(clock)),
             _ => Ok(Reply::Done),
@@ -301,6 +326,55 @@ impl Tables {
     {
         empty_all(&mut self.slots, process);
         free_all(&mut self.locks, process);
+    }
+
+    /// The names of a read-only database get new files with copies of these bytes.
+    pub fn install(
+        &mut self,
+        alloc: Global,
+        root: u32,
+        name: &Text,
+        main: &Bytes,
+        index: &Bytes,
+    ) -> Result<(), NoMemory>
+        ensures ok { OnOk result (disk_at self.new ≡ created (created (disk_at self.old) (Ro root name.now) main.now) (RoIdx root name.now) index.now) }
+        ensures err { OnErr result (disk_at self.new ≡ disk_at self.old) }
+        ensures locks { self.new.locks ≡ self.old.locks }
+        ensures slots { self.new.slots ≡ self.old.slots }
+    {
+        let main_name = Name::Ro {
+            root,
+            name: name.copy()?,
+        };
+        let index_name = Name::RoIdx {
+            root,
+            name: name.copy()?,
+        };
+        let main = File::of(alloc, main.as_slice())?;
+        let index = File::of(alloc, index.as_slice())?;
+        self.names.reserve(2)?;
+        self.files.reserve(2)?;
+        place(&mut self.names, &mut self.files, main_name, main);
+        place(&mut self.names, &mut self.files, index_name, index);
+        Ok(())
+    }
+
+    /// The list of read-only databases is a new file with a copy of this text, or absent.
+    pub fn set_list(&mut self, alloc: Global, text: &Option<Bytes>) -> Result<(), NoMemory>
+        ensures ok { OnOk result (disk_at self.new ≡ listed (disk_at self.old) text.now) }
+        ensures err { OnErr result (disk_at self.new ≡ disk_at self.old) }
+        ensures locks { self.new.locks ≡ self.old.locks }
+        ensures slots { self.new.slots ≡ self.old.slots }
+    {
+        let Some(text) = text else {
+            forget(&mut self.names, &Name::List);
+            return Ok(());
+        };
+        let list = File::of(alloc, text.as_slice())?;
+        self.names.reserve(1)?;
+        self.files.reserve(1)?;
+        place(&mut self.names, &mut self.files, Name::List, list);
+        Ok(())
     }
 
     /// A copy of the bytes of the file that a name has.

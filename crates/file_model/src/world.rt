@@ -1,18 +1,21 @@
-ghost use Rattle.std.specs.Prelude.{◌≡◌, ◌≤◌, ◌<◌, ◌+◌, ◌-◌, ◌^◌, ◌∷◌, [], ℕ, Bool, true, false, get_or, length, min, OnOk, OnErr, IfOk, IsOk, IsSome, is_some, if◌then◌else◌};
+ghost use Rattle.std.specs.Prelude.{◌≡◌, ◌≤◌, ◌<◌, ◌+◌, ◌-◌, ◌^◌, ◌∷◌, ◌++◌, [], ℕ, Bool, true, false, None, get_or, length, min, OnOk, OnErr, IfOk, IsOk, IsSome, is_some, if◌then◌else◌};
 ghost use Rattle.std.specs.Vec.{vec_len, vec_capacity};
 ghost use Rattle.cache_types.specs.Seats.{same_seat};
 ghost use Rattle.cache_types.specs.declared.seat.Who.{Who};
+ghost use Rattle.cache_types.specs.declared.name.Name.TheVariants.{Ro, RoIdx};
 ghost use Rattle.file_log.specs.declared.item.LogItem.TheVariants as items;
-ghost use Rattle.file_log.specs.Disk.{file_of};
+ghost use Rattle.file_log.specs.Disk.{created, listed, file_of};
 ghost use Rattle.file_log.specs.Effect.{after_call};
 ghost use Rattle.file_log.specs.Exchange.{Answers, NoteMayLack, byte_items, item_of_note};
+ghost use Rattle.file_log.specs.Fits.{TextFits};
 ghost use Rattle.file_log.specs.Legal.{Legal, IsLegal, IsOpen};
 ghost use Rattle.file_log.specs.Seat.{Course, IsFilled, SlotFits, IsTold, course_of};
-ghost use Rattle.file_log.specs.State.{state_of, disk_of};
+ghost use Rattle.file_log.specs.State.{first, state_of, disk_of};
 ghost use Rattle.file_model.specs.Calls.{MakesOne, IsNoFailure, TellsClock, filled_of};
 ghost use Rattle.file_model.specs.Find.{Once};
 ghost use Rattle.file_model.specs.Held.{told, IsPlain};
 ghost use Rattle.file_model.specs.Operations.{course_in};
+ghost use Rattle.file_model.specs.Pieces.{items_of_pieces, items_grown};
 ghost use Rattle.file_model.specs.Room.{closes, closes_by as the_closes, ends};
 ghost use Rattle.file_model.specs.Seeing.{seen_by};
 ghost use Rattle.file_model.specs.Starts.{NamesDiffer};
@@ -22,10 +25,10 @@ use crate::book::Book;
 use crate::find::{file_in, is_among};
 use crate::operations::{begin_in_room, end_in_room, fail_in_room, operation_of};
 use crate::parts::OpenOperation;
-use crate::piece::Run;
+use crate::piece::{Piece, Run};
 use crate::seen::Seen;
 use crate::tables::Tables;
-use cache_types::{Answer, Bytes, Driver, Key, Name, NoMemory, Request, Store, Who};
+use cache_types::{Answer, Bytes, Driver, Key, Name, NoMemory, Request, Store, Text, Who};
 use file_log::{Call, LogItem, Note, Reply, request_known};
 use std::alloc::Global;
 use std::marker::Model;
@@ -85,6 +88,64 @@ fn answer_in_room(
     }
 }
 
+/// Brings a read-only database, and takes the memory for its item. It does both or neither.
+fn install_in_room(
+    book: &mut Book,
+    tables: &mut Tables,
+    alloc: Global,
+    root: u32,
+    name: &Text,
+    main: &Bytes,
+    index: &Bytes,
+) -> Result<(), NoMemory>
+    ensures ok { OnOk result (disk_at tables.new ≡ created (created (disk_at tables.old) (Ro root name.now) main.now) (RoIdx root name.now) index.now) }
+    ensures room { OnOk result (book.new ≡ record book.old { room = book.old.room + 1 }) }
+    ensures err { OnErr result ((disk_at tables.new ≡ disk_at tables.old) × (book.new ≡ book.old)) }
+    ensures locks { tables.new.locks ≡ tables.old.locks }
+    ensures slots { tables.new.slots ≡ tables.old.slots }
+{
+    book.make_room(1)?;
+    match tables.install(alloc, root, name, main, index) {
+        Ok(()) => Ok(()),
+        Err(e) => {
+            book.give_room(1);
+            Err(e)
+        }
+    }
+}
+
+/// Sets the list of read-only databases, and takes the memory for its item. It does both or neither.
+fn list_in_room(
+    book: &mut Book,
+    tables: &mut Tables,
+    alloc: Global,
+    text: &Option<Bytes>,
+) -> Result<(), NoMemory>
+    ensures ok { OnOk result (disk_at tables.new ≡ listed (disk_at tables.old) text.now) }
+    ensures room { OnOk result (book.new ≡ record book.old { room = book.old.room + 1 }) }
+    ensures err { OnErr result ((disk_at tables.new ≡ disk_at tables.old) × (book.new ≡ book.old)) }
+    ensures locks { tables.new.locks ≡ tables.old.locks }
+    ensures slots { tables.new.slots ≡ tables.old.slots }
+{
+    book.make_room(1)?;
+    match tables.set_list(alloc, text) {
+        Ok(()) => Ok(()),
+        Err(e) => {
+            book.give_room(1);
+            Err(e)
+        }
+    }
+}
+
+/// What is known of every text of a list: it is bytes.
+fn text_known(text: &Option<Bytes>)
+    ensures { TextFits text.now }
+{
+    if let Some(text) = text {
+        text.known();
+    }
+}
+
 /// Adds a process, in memory that was taken for it.
 fn halt(halted: &mut Vec<u32>, process: u32)
     requires { vec_len halted.old < vec_capacity halted.old }
@@ -125,6 +186,17 @@ impl World {
         requires { NamesDiffer files.items }
         ensures { IfOk result (λ world. world ≡ record { past = record { start = files.items; log = [] }; clock = 0 }) }
     {
+        World::at_first(alloc, files, 0)
+    }
+
+    /// These files at the start, nothing done, and the clock at this number.
+    pub(crate) fn at_first(
+        alloc: Global,
+        files: Vec<(Name, Bytes)>,
+        clock: u64,
+    ) -> Result<World, NoMemory>
+        ensures { IfOk result (λ world. world ≡ record { past = record { start = files.items; log = [] }; clock = clock }) }
+    {
         let tables = Tables::of(alloc, &files)?;
         Ok(World {
             alloc,
@@ -133,7 +205,7 @@ impl World {
             tables,
             halted: Vec::new(alloc),
             operations: Vec::new(alloc),
-            clock: 0,
+            clock,
         })
     }
 
@@ -179,20 +251,26 @@ impl World {
         call.known();
         let reply = self.tables.reply_to(self.alloc, self.clock, who, &call)?;
         let told = reply.copy()?;
+        self.answered(who, call, told)?;
+        Ok(reply)
+    }
+
+    /// Does what a call does that is answered so, and tells it. A refusal changes nothing.
+    pub(crate) fn answered(&mut self, who: Who, call: Call, reply: Reply) -> Result<(), NoMemory>
+        requires { IsLegal (state_of self.old.past) (items.Did who call reply) }
+        ensures ok { OnOk result (self.new ≡ told self.old (items.Did who call reply ∷ [])) }
+        ensures err { OnErr result (self.new ≡ self.old) }
+    {
         answer_in_room(
             &mut self.book,
             &mut self.tables,
             self.alloc,
             who,
             &call,
-            &told,
+            &reply,
         )?;
-        self.book.put(LogItem::Did {
-            who,
-            call,
-            reply: told,
-        });
-        Ok(reply)
+        self.book.put(LogItem::Did { who, call, reply });
+        Ok(())
     }
 
     /// Empties a slot and frees its lock. Takes no memory.
@@ -298,13 +376,23 @@ impl World {
     {
         driver.known();
         key.known();
-        self.book.make_room(1)?;
-        self.book.put(LogItem::Evict {
+        self.add_plain(LogItem::Evict {
             who,
             store,
             driver,
             key,
-        });
+        })
+    }
+
+    /// Tells an item that changes no file and opens or ends no operation. A refusal changes nothing.
+    pub(crate) fn add_plain(&mut self, item: LogItem) -> Result<(), NoMemory>
+        requires plain { IsPlain item }
+        requires legal { IsLegal (state_of self.old.past) item }
+        ensures ok { OnOk result (self.new ≡ told self.old (item ∷ [])) }
+        ensures err { OnErr result (self.new ≡ self.old) }
+    {
+        self.book.make_room(1)?;
+        self.book.put(item);
         Ok(())
     }
 
@@ -333,6 +421,52 @@ impl World {
         halt(&mut self.halted, process);
         self.tables.stop(process);
         self.book.put(LogItem::Stop { process });
+        Ok(())
+    }
+
+    /// Brings a read-only database: its two names get new files. A refusal changes nothing.
+    pub fn install(
+        &mut self,
+        root: u32,
+        name: Text,
+        main: Bytes,
+        index: Bytes,
+    ) -> Result<(), NoMemory>
+        requires main { (disk_of self.old.past).names (Ro root name) ≡ None }
+        requires index { (disk_of self.old.past).names (RoIdx root name) ≡ None }
+        ensures ok { OnOk result (self.new ≡ told self.old (items.Install root name main index ∷ [])) }
+        ensures legal { IsLegal (state_of self.old.past) (items.Install root name main index) }
+        ensures err { OnErr result (self.new ≡ self.old) }
+    {
+        main.known();
+        index.known();
+        install_in_room(
+            &mut self.book,
+            &mut self.tables,
+            self.alloc,
+            root,
+            &name,
+            &main,
+            &index,
+        )?;
+        self.book.put(LogItem::Install {
+            root,
+            name,
+            main,
+            index,
+        });
+        Ok(())
+    }
+
+    /// Sets the list of read-only databases: its name gets a new file, or none. A refusal changes nothing.
+    pub fn set_list(&mut self, text: Option<Bytes>) -> Result<(), NoMemory>
+        ensures ok { OnOk result (self.new ≡ told self.old (items.SetList text ∷ [])) }
+        ensures legal { IsLegal (state_of self.old.past) (items.SetList text) }
+        ensures err { OnErr result (self.new ≡ self.old) }
+    {
+        text_known(&text);
+        list_in_room(&mut self.book, &mut self.tables, self.alloc, &text)?;
+        self.book.put(LogItem::SetList { text });
         Ok(())
     }
 
@@ -376,6 +510,21 @@ impl World {
         }
     }
 
+    /// The files that were there at first.
+    pub(crate) fn start(&self) -> &[(Name, Bytes)]
+        ensures { result.now ≡ self.now.past.start }
+    {
+        &self.start
+    }
+
+    /// The log in pieces, and the run that grows after them, if there is one.
+    pub(crate) fn pieces(&self) -> (&[Piece], &Option<Run>)
+        ensures items { self.now.past.log ≡ items_of_pieces result.0.now ++ items_grown result.1.now }
+        ensures legal { Legal (first self.now.past.start) self.now.past.log }
+    {
+        self.book.pieces()
+    }
+
     /// Whether an operation of a seat is open. Takes no memory.
     pub(crate) fn is_inside(&self, who: Who) -> bool
         ensures { result ≡ (course_of who self.now.past.log).inside }
@@ -384,7 +533,7 @@ impl World {
     }
 
     /// The allocator of all that the world keeps.
-    pub(crate) fn alloc(&self) -> Global {
+    pub fn alloc(&self) -> Global {
         self.alloc
     }
 

@@ -1,12 +1,10 @@
 -- What each call that is answered makes, and how it changes what the seat has seen.
-use Rattle.std.proofs.Common.{◌≡◌, ◌<◌, ℕ, ◌+◌, cond, nat_eq, nat_lt, ◌&&◌, Bool, true, false, List, [], ◌∷◌, ◌++◌, fold, length, take, Option, Some, None, refl, sym, ap, subst, ◌∙◌}
-use Rattle.std.specs.Prelude.{is_some, IsSome}
-use Rattle.std.proofs.lemmas.Bool.{eqb-true, eq-eqb, lt-ltb}
-use Rattle.std.proofs.Math.Dec.{eqb-suc-zero}
+use Rattle.std.proofs.Common.{◌≡◌, ◌<◌, ℕ, ◌+◌, cond, nat_eq, nat_lt, ◌&&◌, Bool, true, false, List, [], ◌∷◌, fold, length, take, Option, Some, None, refl, sym, ap, subst, ◌∙◌}
+use Rattle.std.specs.Prelude.{is_some}
+use Rattle.std.proofs.lemmas.Bool.{eqb-true, lt-ltb}
 use Rattle.cache_types.specs.declared.seat.Who.{Who}
 use Rattle.cache_types.specs.declared.name.Name.{Name}
 use Rattle.cache_types.specs.Seats.{same_seat}
-use Rattle.cache_types.specs.Names.{same_name}
 use Rattle.cache_types.proofs.Names.{same_name_decides}
 use Rattle.file_log.specs.declared.call.Call.{Call}
 use Rattle.file_log.specs.declared.call.Call.TheVariants as calls
@@ -14,13 +12,12 @@ use Rattle.file_log.specs.declared.note.Note.{Note}
 use Rattle.file_log.specs.declared.note.Note.TheVariants as notes
 use Rattle.file_log.specs.declared.reply.Reply.{Reply}
 use Rattle.file_log.specs.declared.reply.Reply.TheVariants as replies
-use Rattle.file_log.specs.declared.item.LogItem.{LogItem}
 use Rattle.file_log.specs.declared.item.LogItem.TheVariants as items
 use Rattle.file_log.specs.Disk.{Disk, with_slot, made_at, made, locked, rewritten, renamed}
 use Rattle.file_log.specs.Effect.{applied, after_call}
-use Rattle.file_log.specs.Exchange.{Answers, Makes, MayFail, NoteMayLack, byte_items, items_done, item_of_note}
-use Rattle.file_log.specs.Legal.{Legal, IsLegal, IsReply, IsOpen}
-use Rattle.file_log.specs.Seat.{Seen, Course, IsSeen, IsFilled, SlotFits, course_after, course_of, filled_by, seen_after}
+use Rattle.file_log.specs.Exchange.{Answers, Makes, NoteMayLack, byte_items, items_done, item_of_note}
+use Rattle.file_log.specs.Legal.{Legal, IsLegal, IsReply}
+use Rattle.file_log.specs.Seat.{Seen, Course, IsSeen, SlotFits, course_after, course_of, seen_after}
 use Rattle.file_log.specs.State.{state_of, disk_of}
 use Rattle.file_log.specs.Writing.{written}
 use Rattle.file_log.proofs.All.{seat_self}
@@ -60,19 +57,19 @@ slot_set d me slot file at small =
     by_place true here = ap (λ (b : Bool). b && is_some file) (ap (λ (n : ℕ). nat_lt n 8) (sym (eqb-true slot at here)) ∙ lt-ltb slot 8 small)
     by_place false other = refl
 
-write_slots : (d : Disk) (file : Option ℕ) (change : List ℕ → List ℕ) → (rewritten d file change).slots ≡ d.slots
+pub write_slots : (d : Disk) (file : Option ℕ) (change : List ℕ → List ℕ) → (rewritten d file change).slots ≡ d.slots
 write_slots d None change = refl
 write_slots d (Some f) change = refl
 
-lock_slots : (d : Disk) (me : Who) (slot : ℕ) (file : Option ℕ) → (locked d me slot file).slots ≡ d.slots
+pub lock_slots : (d : Disk) (me : Who) (slot : ℕ) (file : Option ℕ) → (locked d me slot file).slots ≡ d.slots
 lock_slots d me slot None = refl
 lock_slots d me slot (Some f) = refl
 
-rename_slots : (d : Disk) (from to : Name) (file : Option ℕ) → (renamed d file from to).slots ≡ d.slots
+pub rename_slots : (d : Disk) (from to : Name) (file : Option ℕ) → (renamed d file from to).slots ≡ d.slots
 rename_slots d from to None = refl
 rename_slots d from to (Some f) = refl
 
-made_slots : (d : Disk) (name : Name) (file : Option ℕ) → (made_at file d name).slots ≡ d.slots
+pub made_slots : (d : Disk) (name : Name) (file : Option ℕ) → (made_at file d name).slots ≡ d.slots
 made_slots d name None = refl
 made_slots d name (Some f) = refl
 

@@ -1,5 +1,5 @@
 -- The test of a call is what its conditions say.
-use Rattle.std.proofs.Common.{◌≡◌, ◌↔◌, ◌<◌, ℕ, nat_lt, ◌&&◌, not, Bool, true, false, refl}
+use Rattle.std.proofs.Common.{◌≡◌, ◌↔◌, ℕ, nat_lt, ◌&&◌, not, Bool, true, false, refl}
 use Rattle.std.specs.Prelude.{is_some}
 use Rattle.std.proofs.lemmas.Bool.{ltb-true, lt-ltb}
 use Rattle.cache_types.specs.declared.seat.Who.{Who}

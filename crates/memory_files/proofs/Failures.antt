@@ -3,19 +3,16 @@ use Rattle.std.proofs.Common.{◌≡◌, ℕ, cond, Bool, true, false, List, [],
 use Rattle.std.proofs.lemmas.List.{append-nil}
 use Rattle.std.proofs.lemmas.List.Sums.{fold-append}
 use Rattle.cache_types.specs.declared.seat.Who.{Who}
-use Rattle.cache_types.specs.Seats.{same_seat}
 use Rattle.file_log.specs.declared.call.Call.{Call}
 use Rattle.file_log.specs.declared.call.Call.TheVariants as calls
 use Rattle.file_log.specs.declared.reply.Reply.{Reply}
 use Rattle.file_log.specs.declared.reply.Reply.TheVariants as replies
 use Rattle.file_log.specs.declared.item.LogItem.{LogItem}
 use Rattle.file_log.specs.declared.item.LogItem.TheVariants as items
-use Rattle.file_log.specs.Along.{All}
 use Rattle.file_log.specs.Disk.{Disk}
 use Rattle.file_log.specs.Effect.{applied}
 use Rattle.file_log.specs.Exchange.{Answers, Makes, MayFail, items_before}
 use Rattle.file_log.specs.Legal.{Legal, IsLegal}
-use Rattle.file_log.specs.Log.{History, with_items}
 use Rattle.file_log.specs.Seat.{Course, Seen, IsSeen, IsCalm, course_after, course_of, seen_after, seen_failed}
 use Rattle.file_log.specs.State.{State, after, state_of, disk_of}
 use Rattle.file_log.proofs.All.{seat_self}
@@ -23,7 +20,7 @@ use Rattle.file_log.proofs.Logs.{All-append}
 use Rattle.file_model.specs.Held.{Held, told}
 use Rattle.memory_files.specs.Seats.{seen_on, seen_in, GoesOn, Tells}
 use Rattle.memory_files.specs.Failures.{failure, is_inside, FailureTold, FailureUntold, Fails}
-use Rattle.memory_files.proofs.Telling.{AreOwn, own-append, state_then, course_then, goes_on_then, tells, tells_nothing}
+use Rattle.memory_files.proofs.Telling.{AreOwn, own-append, state_then, course_then, goes_on_then, tells}
 use Rattle.memory_files.proofs.Calls.{run_own, run_seen}
 
 -- ---- what was done before

@@ -3,3 +3,4 @@ mod Calls
 mod Failures
 mod Planned
 mod Deciding
+mod NewSeats

@@ -1,5 +1,5 @@
 -- Calls for which a fault of the plan stands.
-use Rattle.std.proofs.Common.{◌≡◌, ◌⊎◌, ℕ, cond, nat_eq, ◌&&◌, Bool, true, false, List, [], ◌∷◌, Option, Some, None, refl, sym, ap, ◌∙◌, inl, inr, ⊎_elim}
+use Rattle.std.proofs.Common.{◌≡◌, ℕ, cond, nat_eq, ◌&&◌, Bool, true, false, List, [], ◌∷◌, Some, None, refl, sym, ap, ◌∙◌, inl, inr, ⊎_elim}
 use Rattle.cache_types.specs.declared.seat.Who.{Who}
 use Rattle.file_log.specs.declared.call.Call.{Call}
 use Rattle.file_log.specs.declared.call.Call.TheVariants as calls
@@ -16,7 +16,7 @@ use Rattle.cache_types.specs.declared.store.Store.{Store}
 use Rattle.file_model.specs.Held.{Held}
 use Rattle.memory_files.specs.declared.plan.Fault.{Fault}
 use Rattle.memory_files.specs.declared.plan.Plan.{Plan}
-use Rattle.memory_files.specs.Failures.{FailureTold, FailureUntold, Fails, IsFailure, failure}
+use Rattle.memory_files.specs.Failures.{Fails, IsFailure, failure}
 use Rattle.memory_files.specs.Plans.{is_counted, is_tell, stands_for, earliest, fault_for}
 use Rattle.memory_files.specs.Seats.{GoesOn, Tells}
 use Rattle.memory_files.proofs.Calls.{untold}

@@ -1,5 +1,5 @@
 -- A call tells the items that it makes.
-use Rattle.std.proofs.Common.{◌≡◌, ℕ, cond, nat_eq, nat_lt, ◌&&◌, ◌||◌, Bool, true, false, List, [], ◌∷◌, ◌++◌, fold, Option, Some, None, refl, sym, ap, subst, ◌∙◌, append_assoc}
+use Rattle.std.proofs.Common.{◌≡◌, ℕ, cond, Bool, true, false, List, [], ◌∷◌, ◌++◌, fold, refl, sym, ap, subst, ◌∙◌}
 use Rattle.std.proofs.lemmas.List.{append-nil}
 use Rattle.std.proofs.lemmas.List.Sums.{fold-append}
 use Rattle.cache_types.specs.declared.seat.Who.{Who}
@@ -14,7 +14,7 @@ use Rattle.file_log.specs.Legal.{Legal}
 use Rattle.file_log.specs.Log.{History, with_items, own, is_own, is_stop, EndsOwn, NoStop}
 use Rattle.file_log.specs.Seat.{Course, IsSeen, course_after, course_of, seen_after}
 use Rattle.file_log.specs.State.{State, first, after, halted_after, state_of, disk_of}
-use Rattle.file_log.specs.Told.{Called, Owns, OwnsToEnd, IsSomeItem}
+use Rattle.file_log.specs.Told.{IsSomeItem}
 use Rattle.file_model.specs.Held.{Held, told}
 use Rattle.memory_files.specs.Seats.{seen_on, seen_in, GoesOn, Tells}
 

@@ -1,5 +1,5 @@
 -- Whether a seat may make a call, as a test.
-use Rattle.std.specs.Prelude.{◌&&◌, ℕ, nat_lt, not, Bool, true, false, is_some}
+use Rattle.std.specs.Prelude.{◌&&◌, ℕ, nat_lt, not, Bool, true, is_some}
 use Rattle.cache_types.specs.declared.seat.Who.{Who}
 use Rattle.file_log.specs.declared.call.Call.{Call}
 use Rattle.file_log.specs.declared.call.Call.TheVariants as calls

@@ -1,5 +1,5 @@
 -- Calls that are to fail, by their numbers.
-use Rattle.std.specs.Prelude.{ℕ, ◌+◌, ◌-◌, ◌^◌, Bool, List, min, nat_eq}
+use Rattle.std.specs.Prelude.{◌+◌, ◌-◌, ◌^◌, Bool, min, nat_eq}
 use Rattle.std.specs.List.{list_any}
 use Rattle.memory_files.specs.declared.failing.Failing.{Failing}
 

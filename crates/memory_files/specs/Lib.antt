@@ -6,3 +6,4 @@ pub mod Failures
 pub mod Plans
 pub mod Files
 pub mod Lone
+pub mod Stopped

@@ -95,6 +95,13 @@ impl MemFiles {
         &self.world
     }
 
+    /// The seat that calls.
+    pub(crate) fn seat(&self) -> Who
+        ensures { result ≡ ⟦<MemFiles as Files>⟧.me self.now }
+    {
+        self.me
+    }
+
     /// The world, with which another seat may go on.
     pub fn into_world(self) -> World
         ensures world { result ≡ world_of self }

@@ -9,6 +9,7 @@ mod lone;
 mod plan;
 mod sink;
 mod source;
+mod stopped;
 #[cfg(test)]
 mod tests;
 

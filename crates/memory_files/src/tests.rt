@@ -1,12 +1,18 @@
 use super::*;
-use cache_types::{Answer, Bytes, Key, Name, NoMemory, Request, Who};
+use cache_types::{Answer, Bytes, Key, Name, NoMemory, Request, Text, Who};
 use file_log::{Call, Note, Reply};
+use file_model::World;
 use files_api::{Files, Sink, Source, Took};
 use std::alloc::Global;
 use std::test::Fail;
 
 const ME: Who = Who {
     process: 1,
+    seat: 0,
+};
+
+const NEXT: Who = Who {
+    process: 2,
     seat: 0,
 };
 
@@ -128,6 +134,77 @@ fn a_planned_write_writes_a_part(rt: HostRuntime) -> Result<(), Fail> {
         let found = length_then(rt.alloc(), &mut files)?;
         assert_eq!(rt; found, Some(length), "after {after}");
     }
+    Ok(())
+}
+
+/// The length of the file that these calls write, after a stop behind so many items.
+fn length_after(alloc: Global, files: &MemFiles, n: u64) -> Result<Option<u64>, Fail> {
+    if !files.may_follow(n, NEXT)? {
+        return Err("the seat may not follow".into());
+    }
+    let mut next = files.stopped_after(n, NEXT)?;
+    ask(&mut next, call_of(alloc, 0)?)?;
+    ask(&mut next, call_of(alloc, 1)?)?;
+    // The lock was free by the stop.
+    if !matches!(ask(&mut next, call_of(alloc, 3)?)?, Reply::Done) {
+        return Ok(None);
+    }
+    match ask(&mut next, call_of(alloc, 4)?)? {
+        Reply::Number(length) => Ok(Some(length)),
+        _ => Ok(None),
+    }
+}
+
+#[test]
+fn a_stop_keeps_what_was_written(rt: HostRuntime) -> Result<(), Fail> {
+    let mut files = MemFiles::new(rt.alloc(), ME)?;
+    assert_eq!(rt; first_failure(rt.alloc(), &mut files)?, None);
+    // A Begin, an OpenNew, three bytes, and eight calls more.
+    assert_eq!(rt; files.world().log_len(), 13);
+    for n in 0..14 {
+        let length = length_after(rt.alloc(), &files, n)?;
+        assert_eq!(rt; length, Some(n.saturating_sub(2).min(3)), "after {n}");
+    }
+    assert!(rt; !files.may_follow(14, NEXT)?);
+    assert!(rt; !files.may_follow(13, ME)?);
+    Ok(())
+}
+
+#[test]
+fn a_folder_is_listed(rt: HostRuntime) -> Result<(), Fail> {
+    let mut files = MemFiles::new(rt.alloc(), ME)?;
+    let mut other = KEY;
+    other.bytes[19] = 3;
+    let mut elsewhere = KEY;
+    elsewhere.bytes[0] = 8;
+    for key in [KEY, other, elsewhere] {
+        let name = Name::Entry { root: 0, key };
+        ask(&mut files, Call::OpenNew { slot: 0, name })?;
+        ask(&mut files, Call::Close { slot: 0 })?;
+    }
+    let listed = ask(&mut files, Call::ListFolder { root: 0, byte: 7 })?;
+    let Reply::Keys(keys) = &listed else {
+        return Err("no keys".into());
+    };
+    assert_eq!(rt; keys.as_slice(), [other, KEY].as_slice());
+    Ok(())
+}
+
+#[test]
+fn what_was_brought_stays_after_a_stop(rt: HostRuntime) -> Result<(), Fail> {
+    let mut world = World::new(rt.alloc());
+    let main = Bytes::of(rt.alloc(), b"abc")?;
+    let index = Bytes::new(rt.alloc());
+    world.install(0, Text::of(rt.alloc(), "a")?, main, index)?;
+    world.set_list(Some(Bytes::of(rt.alloc(), b"a")?))?;
+    let files = MemFiles::on(rt.alloc(), ME, world)?;
+    assert!(rt; files.may_follow(2, NEXT)?);
+    let next = files.stopped_after(2, NEXT)?;
+    let name = Text::of(rt.alloc(), "a")?;
+    let main = next.world().file(&Name::Ro { root: 0, name })?;
+    assert!(rt; matches!(&main, Some(bytes) if bytes.as_slice() == b"abc".as_slice()));
+    let list = next.world().file(&Name::List)?;
+    assert!(rt; matches!(&list, Some(bytes) if bytes.as_slice() == b"a".as_slice()));
     Ok(())
 }
 

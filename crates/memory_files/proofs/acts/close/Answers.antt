@@ -1,7 +1,6 @@
-use Rattle.std.proofs.Common.{◌≡◌, ◌∷◌, [], Bool, sym, subst}
+use Rattle.std.proofs.Common.{sym, subst}
 use Rattle.file_log.specs.declared.call.Call.TheVariants.{Close}
 use Rattle.file_log.specs.declared.reply.Reply.TheVariants.{Done}
-use Rattle.file_model.specs.Held.{Held}
 use Rattle.memory_files.specs.Seats.{Tells}
 use Rattle.memory_files.proofs.Calls.{did_tells}
 use Rattle.memory_files.proofs.acts.close.Goals as goal

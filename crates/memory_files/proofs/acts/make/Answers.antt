@@ -1,4 +1,4 @@
-use Rattle.std.proofs.Common.{◌≡◌, true, sym, subst}
+use Rattle.std.proofs.Common.{true, sym, subst}
 use Rattle.file_model.specs.Held.{Held}
 use Rattle.memory_files.specs.Failures.{Fails}
 use Rattle.memory_files.specs.Seats.{Tells}

@@ -1,4 +1,4 @@
-use Rattle.std.proofs.Common.{◌≡◌, ap}
+use Rattle.std.proofs.Common.{ap}
 use Rattle.memory_files.specs.Plans.{is_tell}
 use Rattle.memory_files.proofs.Failures.{fails_at_once}
 use Rattle.memory_files.proofs.Planned.{tell_refused, counted_may_fail, fails_so}

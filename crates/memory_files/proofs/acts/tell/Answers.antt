@@ -1,9 +1,8 @@
-use Rattle.std.proofs.Common.{◌≡◌, sym, subst}
+use Rattle.std.proofs.Common.{sym, subst}
 use Rattle.file_log.specs.declared.call.Call.TheVariants.{Tell}
-use Rattle.file_log.specs.declared.reply.Reply.TheVariants.{Done, NoMemory}
-use Rattle.file_model.specs.Held.{Held}
+use Rattle.file_log.specs.declared.reply.Reply.TheVariants.{Done}
 use Rattle.memory_files.specs.Seats.{Tells}
-use Rattle.memory_files.proofs.Calls.{note_tells, untold}
+use Rattle.memory_files.proofs.Calls.{note_tells}
 use Rattle.memory_files.proofs.acts.tell.Goals as goal
 
 pub returns-in-Ok-clause-tells : goal.returns-in-Ok-clause-tells

@@ -1,4 +1,4 @@
-use Rattle.std.proofs.Common.{◌≡◌, ◌∙◌, true, sym, subst}
+use Rattle.std.proofs.Common.{◌∙◌, true, sym, subst}
 use Rattle.file_log.specs.declared.call.Call.TheVariants.{WriteAt}
 use Rattle.file_log.specs.declared.reply.Reply.TheVariants.{Done}
 use Rattle.file_model.specs.Held.{Held}

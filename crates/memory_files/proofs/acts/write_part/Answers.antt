@@ -1,5 +1,4 @@
-use Rattle.std.proofs.Common.{◌≡◌, ◌∙◌, List, ℕ, true, ap, subst, take}
-use Rattle.file_log.specs.declared.call.Call.{Call}
+use Rattle.std.proofs.Common.{◌∙◌, List, ℕ, true, ap, subst}
 use Rattle.file_log.specs.declared.call.Call.TheVariants.{WriteAt}
 use Rattle.file_log.specs.Exchange.{byte_items}
 use Rattle.file_log.specs.Legal.{Legal}

@@ -4,7 +4,7 @@ use Rattle.file_model.specs.declared.parts.NamedFile.{NamedFile}
 use Rattle.file_model.specs.declared.parts.OpenSlot.{OpenSlot}
 use Rattle.file_model.specs.Find.{number_of}
 use Rattle.file_model.specs.Tables.{disk_from}
-use Rattle.file_model.proofs.Disks.{created, named_file, open_slot}
+use Rattle.file_model.proofs.Disks.{opened_new, named_file, open_slot}
 use Rattle.file_model.proofs.tables.Tables.create.Goals as goal
 
 pub returns-in_ok-add_file-in-None-clause-ok : goal.returns-in_ok-add_file-in-None-clause-ok
@@ -22,4 +22,4 @@ returns-in_ok-add_file-in-None-clause-ok c =
     ap (λ (n : List NamedFile). disk_from n c.add_file.new.files.items c.add_file.new.slots.items old.locks.items) names
     ∙ ap (λ (f : List (List ℕ)). disk_from (named_file name len ∷ old.names.items) f c.add_file.new.slots.items old.locks.items) files
     ∙ ap (λ (s : List OpenSlot). disk_from (named_file name len ∷ old.names.items) (old.files.items ++ [] ∷ []) s old.locks.items) slots
-    ∙ created old.names.items old.files.items old.slots.items old.locks.items who slot name (number_of old.names.items name) none
+    ∙ opened_new old.names.items old.files.items old.slots.items old.locks.items who slot name (number_of old.names.items name) none

@@ -1,4 +1,4 @@
-use Rattle.std.proofs.Common.{◌≡◌, ◌∙◌, sym}
+use Rattle.std.proofs.Common.{sym}
 use Rattle.memory_files.proofs.Planned.{tell_memory}
 use Rattle.memory_files.proofs.files.MemFiles.make.Goals as goal
 

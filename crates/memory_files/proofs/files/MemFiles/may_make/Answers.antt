@@ -1,4 +1,3 @@
-use Rattle.std.proofs.Common.{◌≡◌, Bool, subst, sym}
 use Rattle.memory_files.proofs.Deciding.{allowed_is}
 use Rattle.memory_files.proofs.files.MemFiles.may_make.Goals as goal
 

@@ -1,7 +1,6 @@
-use Rattle.std.proofs.Common.{◌≡◌, ◌∙◌, ◌++◌, ◌∷◌, [], ◌+◌, ◌-◌, List, false, ap, sym, refl, subst, arith}
-use Rattle.cache_types.specs.Seats.{same_seat}
+use Rattle.std.proofs.Common.{◌≡◌, ◌∙◌, ◌++◌, ◌∷◌, [], ◌+◌, ◌-◌, List, ap, sym, subst, arith}
 use Rattle.file_log.specs.declared.item.LogItem.{LogItem}
-use Rattle.file_log.specs.declared.item.LogItem.TheVariants.{Evict}
+use Rattle.file_log.specs.Legal.{IsLegal}
 use Rattle.file_log.specs.State.{state_of}
 use Rattle.file_model.specs.Find.{is_among}
 use Rattle.file_model.specs.Held.{Held}
@@ -9,22 +8,22 @@ use Rattle.file_model.specs.Operations.{course_in}
 use Rattle.file_model.specs.Tables.{disk_at}
 use Rattle.file_model.specs.Told.{Told}
 use Rattle.file_model.specs.Worlds.{past_of}
-use Rattle.file_model.proofs.Following.{follows_on, either}
-use Rattle.file_model.proofs.world.World.evict.Goals as goal
+use Rattle.file_model.proofs.Following.{follows_on, plain_disk, plain_stops, plain_course}
+use Rattle.file_model.proofs.world.World.add_plain.Goals as goal
 
 pub invariant_of-self-2 : goal.invariant_of-self-2
 invariant_of-self-2 c =
     let old = c.self.inside in
-    let who = c.args.who in
-    let item = Evict who c.args.store c.args.driver c.args.key in
+    let item = c.args.item in
+    let plain = c.requires.plain in
     let items : c.make_room.new.self.items ≡ old.book.items = ap (λ (t : Told). t.items) c.in_ok-make_room.ensures.ok in
     let taken : c.make_room.new.self.room ≡ old.book.room + 1 = ap (λ (t : Told). t.room) c.in_ok-make_room.ensures.ok in
     let left : c.put.new.self.room ≡ c.make_room.new.self.room - 1 = ap (λ (t : Told). t.room) c.put.ensures in
     let book : c.put.new.self.items ≡ old.book.items ++ item ∷ [] = ap (λ (t : Told). t.items) c.put.ensures ∙ ap (λ (log : List LogItem). log ++ item ∷ []) items in
-    let alive : (state_of (past_of old)).halted who.process ≡ false = subst (λ (h : Held). (state_of h.past).halted who.process ≡ false) (sym c.self.view_is) c.requires in
+    let legal : IsLegal (state_of (past_of old)) item = subst (λ (h : Held). IsLegal (state_of h.past) item) (sym c.self.view_is) c.requires.legal in
     record {
       follows = follows_on (past_of old) (disk_at old.tables) (disk_at old.tables) (is_among old.halted.items) (course_in old.operations.items) (course_in old.operations.items) (item ∷ []) c.put.new.self.items
-          c.self.invariant.follows book ((alive, (c.known.ensures.fits, c.known-2.ensures)), tt) refl (λ halted process. refl) (λ w. sym (either (same_seat w who) (course_in old.operations.items w)));
+          c.self.invariant.follows book (legal, tt) (plain_disk (disk_at old.tables) item plain) (plain_stops item plain) (λ w. plain_course w (course_in old.operations.items w) item plain);
       once = c.self.invariant.once;
       room = omega (arith, c.self.invariant.room, left, taken);
     }

@@ -1,11 +1,9 @@
-use Rattle.std.proofs.Common.{◌≡◌, ◌∙◌, ◌++◌, ◌∷◌, [], ◌+◌, ◌-◌, List, false, ap, sym, refl, subst, arith}
-use Rattle.file_log.specs.declared.reply.Reply.{Reply}
+use Rattle.std.proofs.Common.{◌≡◌, ◌∙◌, ◌++◌, ◌∷◌, [], ◌+◌, ◌-◌, List, ap, sym, refl, subst, arith}
+use Rattle.cache_types.specs.Seats.{same_seat}
 use Rattle.file_log.specs.declared.item.LogItem.{LogItem}
 use Rattle.file_log.specs.declared.item.LogItem.TheVariants.{Did}
-use Rattle.file_log.specs.Disk.{Disk}
-use Rattle.file_log.specs.Legal.{IsReply, IsLegal}
-use Rattle.file_log.specs.State.{state_of, disk_of}
-use Rattle.cache_types.specs.Seats.{same_seat}
+use Rattle.file_log.specs.Legal.{IsLegal}
+use Rattle.file_log.specs.State.{state_of}
 use Rattle.file_model.specs.Find.{is_among}
 use Rattle.file_model.specs.Held.{Held}
 use Rattle.file_model.specs.Operations.{course_in}
@@ -14,8 +12,7 @@ use Rattle.file_model.specs.Tables.{disk_at}
 use Rattle.file_model.specs.Told.{Told}
 use Rattle.file_model.specs.Worlds.{past_of}
 use Rattle.file_model.proofs.Following.{follows_on, follows_still, either}
-use Rattle.file_model.proofs.Replies.{reply_fits}
-use Rattle.file_model.proofs.world.World.did.Goals as goal
+use Rattle.file_model.proofs.world.World.answered.Goals as goal
 
 pub invariant_of-self : goal.invariant_of-self
 invariant_of-self c =
@@ -35,24 +32,17 @@ invariant_of-self-2 c =
     let old = c.self.inside in
     let who = c.args.who in
     let call = c.args.call in
-    let reply = c.in_ok-told.told in
+    let reply = c.args.reply in
     let item = Did who call reply in
     let more = 1 + closes_by call reply in
     let items : c.answer_in_room.new.book.items ≡ old.book.items = ap (λ (t : Told). t.items) c.in_ok-answer_in_room.ensures.room in
     let taken : c.answer_in_room.new.book.room ≡ old.book.room + more = ap (λ (t : Told). t.room) c.in_ok-answer_in_room.ensures.room in
     let left : c.put.new.self.room ≡ c.answer_in_room.new.book.room - 1 = ap (λ (t : Told). t.room) c.put.ensures in
     let book : c.put.new.self.items ≡ old.book.items ++ item ∷ [] = ap (λ (t : Told). t.items) c.put.ensures ∙ ap (λ (log : List LogItem). log ++ item ∷ []) items in
-    let alive : (state_of (past_of old)).halted who.process ≡ false = subst (λ (h : Held). (state_of h.past).halted who.process ≡ false) (sym c.self.view_is) c.requires.alive in
-    let same : reply ≡ c.in_ok-reply.reply = c.in_ok-told.ensures in
-    let is_reply : IsReply (disk_of (past_of old)) who call reply =
-    subst (λ (r : Reply). IsReply (disk_of (past_of old)) who call r) (sym same) (subst (λ (d : Disk). IsReply d who call c.in_ok-reply.reply) c.self.invariant.follows.disk c.in_ok-reply.ensures.reply) in
-    let legal : IsLegal (state_of (past_of old)) item = (alive, (is_reply, c.known.ensures)) in
+    let legal : IsLegal (state_of (past_of old)) item = subst (λ (h : Held). IsLegal (state_of h.past) item) (sym c.self.view_is) c.requires in
     record {
       follows = follows_on (past_of old) (disk_at old.tables) (disk_at c.answer_in_room.new.tables) (is_among old.halted.items) (course_in old.operations.items) (course_in old.operations.items) (item ∷ []) c.put.new.self.items
           c.self.invariant.follows book (legal, tt) c.in_ok-answer_in_room.ensures.ok (λ halted process. refl) (λ w. sym (either (same_seat w who) (course_in old.operations.items w)));
       once = c.in_ok-answer_in_room.ensures.once;
       room = omega (arith, c.self.invariant.room, taken, left, c.in_ok-answer_in_room.ensures.closes);
     }
-
-pub returns-clause-fits : goal.returns-clause-fits
-returns-clause-fits c = reply_fits (disk_at c.self.inside.tables) c.args.who c.args.call c.in_ok-reply.reply c.in_ok-reply.ensures.reply

@@ -1,0 +1,110 @@
+ghost use Rattle.std.specs.Prelude.{◌≡◌, ◌≤◌, ◌∷◌, [], length, take, IfOk, OnOk};
+ghost use Rattle.file_log.specs.Legal.{IsLegal, Legal};
+ghost use Rattle.file_log.specs.State.{state_of};
+ghost use Rattle.file_model.specs.Held.{told, first_of};
+ghost use Rattle.file_model.specs.Pieces.{items_of_run, items_of_piece, items_grown};
+
+use crate::book::len_of_piece;
+use crate::piece::{Piece, Run};
+use crate::world::World;
+use cache_types::{Bytes, Name, NoMemory};
+use file_log::{LogItem, Note};
+use std::alloc::Global;
+
+impl World {
+    /// The world as it was after the first `n` items of its log, with the clock as it is now.
+    pub fn first_items(&self, n: u64) -> Result<World, NoMemory>
+        requires { n ≤ length self.now.past.log }
+        ensures { IfOk result (λ world. world ≡ first_of n self.now) }
+    {
+        let files = copy_files(self.alloc(), self.start())?;
+        let mut world = World::at_first(self.alloc(), files, self.now())?;
+        let (pieces, growing) = self.pieces();
+        let mut left = n;
+        for piece in pieces {
+            world.replay_piece(piece, left)?;
+            left = left.saturating_sub(len_of_piece(piece));
+        }
+        world.replay_growing(growing, left)?;
+        Ok(world)
+    }
+
+    /// Does again what the first items of a piece tell, at most so many.
+    fn replay_piece(&mut self, piece: &Piece, most: u64) -> Result<(), NoMemory>
+        requires { Legal (state_of self.old.past) (take most (items_of_piece piece.now)) }
+        ensures { OnOk result (self.new ≡ told self.old (take most (items_of_piece piece.now))) }
+    {
+        match piece {
+            Piece::One(item) => {
+                if most == 0 {
+                    return Ok(());
+                }
+                self.replay(item.copy(self.alloc())?)
+            }
+            Piece::Written(run) => self.replay_run(run, most),
+        }
+    }
+
+    /// The same of the run that still grows, if there is one.
+    fn replay_growing(&mut self, growing: &Option<Run>, most: u64) -> Result<(), NoMemory>
+        requires { Legal (state_of self.old.past) (take most (items_grown growing.now)) }
+        ensures { OnOk result (self.new ≡ told self.old (take most (items_grown growing.now))) }
+    {
+        match growing {
+            None => Ok(()),
+            Some(run) => self.replay_run(run, most),
+        }
+    }
+
+    /// Writes the first bytes of a run again, at most so many.
+    fn replay_run(&mut self, run: &Run, most: u64) -> Result<(), NoMemory>
+        requires { Legal (state_of self.old.past) (take most (items_of_run run.now)) }
+        ensures { OnOk result (self.new ≡ told self.old (take most (items_of_run run.now))) }
+    {
+        let count = most.min(run.bytes.len());
+        if count == 0 {
+            return Ok(());
+        }
+        let bytes = Bytes::of(self.alloc(), &run.bytes.as_slice()[..count as usize])?;
+        self.write_run(run.who, run.slot, run.at, bytes)
+    }
+
+    /// Does again what an item tells.
+    fn replay(&mut self, item: LogItem) -> Result<(), NoMemory>
+        requires { IsLegal (state_of self.old.past) item }
+        ensures { OnOk result (self.new ≡ told self.old (item ∷ [])) }
+    {
+        match item {
+            LogItem::Begin { who, request } => self.tell(who, Note::Begin(request)),
+            LogItem::Did { who, call, reply } => self.answered(who, call, reply),
+            LogItem::Byte {
+                who,
+                slot,
+                at,
+                value,
+            } => self.write_byte(who, slot, at, value),
+            LogItem::Failed { who, memory } => self.fail(who, memory),
+            LogItem::End { who, answer } => self.tell(who, Note::End(answer)),
+            LogItem::Stop { process } => self.stop(process),
+            LogItem::Install {
+                root,
+                name,
+                main,
+                index,
+            } => self.install(root, name, main, index),
+            LogItem::SetList { text } => self.set_list(text),
+            item => self.add_plain(item),
+        }
+    }
+}
+
+/// The same files in memory of their own.
+fn copy_files(alloc: Global, files: &[(Name, Bytes)]) -> Result<Vec<(Name, Bytes)>, NoMemory>
+    ensures { IfOk result (λ copies. copies.items ≡ files.now) }
+{
+    let mut copies = Vec::new(alloc);
+    for file in files {
+        copies.push((file.0.copy()?, file.1.copy()?))?;
+    }
+    Ok(copies)
+}
