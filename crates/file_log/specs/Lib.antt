@@ -9,4 +9,5 @@ pub mod Legal
 pub mod Seat
 pub mod Exchange
 pub mod Told
+pub mod Tidy
 pub mod Operation

@@ -1,6 +1,5 @@
--- The calls of a lookup, and the one item that each of them makes.
-use Rattle.std.proofs.Common.{◌≡◌, ◌≤◌, ◌+◌, ℕ, suc, Bool, true, false, cond, List, [], ◌∷◌, ◌++◌, length, Option, None, refl, sym, ap, subst, ◌∙◌, arith}
-use Rattle.std.specs.List.{AllByRecursion}
+-- The calls of a lookup, all in its root, and the one item that each of them makes.
+use Rattle.std.proofs.Common.{◌≡◌, ℕ, true, false, List, [], ◌∷◌, ◌++◌, length, refl, sym, ap, subst, ◌∙◌, arith}
 use Rattle.cache_types.specs.declared.answer.Answer.{Answer}
 use Rattle.cache_types.specs.declared.key.Key.{Key}
 use Rattle.cache_types.specs.declared.name.Name.TheVariants.{Entry}
@@ -12,13 +11,16 @@ use Rattle.file_log.specs.declared.item.LogItem.TheVariants as items
 use Rattle.file_log.specs.declared.reply.Reply.{Reply}
 use Rattle.file_log.specs.declared.reply.Reply.TheVariants as replies
 use Rattle.file_log.specs.Exchange.{Answers, Makes, Exchange}
-use Rattle.file_log.specs.Operation.{NamesOnly, IsWithinRoot, is_next, next_place, calls_from, calls_in}
+use Rattle.file_log.specs.Operation.{NamesOnly}
+use Rattle.files_api.specs.declared.machine.Step.{Step}
 use Rattle.files_api.specs.declared.machine.Step.TheVariants.{Ask, Done}
-use Rattle.files_api.specs.Drive.{Runs, items_of_all}
+use Rattle.files_api.specs.Drive.{IsWithin, Goes, Runs, items_of_all}
 use Rattle.folder_store.specs.declared.get.FolderGet.{FolderGet}
 use Rattle.folder_store.specs.declared.get.Phase.{Phase}
 use Rattle.folder_store.specs.declared.get.Phase.TheVariants.{Opening, Measuring, Reading, Closing, Ended, Spent}
-use Rattle.folder_store.specs.Phases.{asks, asks_in, asked, after_asking, Fed, Next}
+use Rattle.folder_store.specs.Laws.{get_goes_on}
+use Rattle.folder_store.specs.Phases.{asks, asks_in, asked, after_asking, Fed, Next, slots_in, hurt_in, left_in}
+use Rattle.folder_store.proofs.Items.{weight, AsksWithin, Lasts, Spends}
 
 -- ---- calls that only look
 
@@ -51,10 +53,17 @@ makes_one me (calls.Close slot) replies.NoMemory made look makes = makes.1
 makes_one me (calls.Close slot) reply made look makes = makes
 makes_one me call reply made look makes = absurd look
 
-item_within : (me : Who) (root : ℕ) (call : Call) (reply : Reply) → NamesOnly root call → IsWithinRoot root (item_for me call reply)
-item_within me root call replies.Failed only = tt
-item_within me root call replies.NoMemory only = tt
-item_within me root call reply only = only
+looking_within : (call : Call) → IsLooking call → IsWithin call
+looking_within (calls.OpenOld slot name) look = tt
+looking_within (calls.Length slot) look = tt
+looking_within (calls.ReadAt slot at n) look = tt
+looking_within (calls.Close slot) look = tt
+looking_within call look = absurd look
+
+-- it counts as one call
+looking_weight : (call : Call) (reply : Reply) → IsLooking call → weight call reply ≡ 1
+looking_weight (calls.WriteAt slot at bytes) reply look = absurd look
+looking_weight call reply look = refl
 
 -- ---- what a lookup asks
 
@@ -95,33 +104,19 @@ From me m xs answer last = Runs asks asked Fed me m xs answer last
 pub first_item : (me : Who) (x : Exchange) (xs : List Exchange) → IsLooking x.call → Makes me true x.call x.reply x.items → items_of_all (x ∷ xs) ≡ item_for me x.call x.reply ∷ items_of_all xs
 first_item me x xs look makes = ap (λ (made : List LogItem). made ++ items_of_all xs) (makes_one me x.call x.reply x.items look makes)
 
-same_root : (m n : FolderGet) (reply : Reply) → Fed (asked m) reply n → n.root ≡ m.root
-same_root m n reply fed = ap (λ (x : FolderGet). x.root) fed.1
+-- it asks within its root
+pub looks_within : (root : ℕ) → AsksWithin asks asked Fed root (λ m. m.root ≡ root)
+looks_within root m call here e =
+    let ours = subst (λ (r : ℕ). IsOurs r call) here (ours_in m.root m.key m.phase call e) in
+    (looking_within call ours.0, ours.1)
 
--- all items stand within its root
-pub all_within : (me : Who) (root : ℕ) (m last : FolderGet) (xs : List Exchange) (answer : Answer) → m.root ≡ root → From me m xs answer last → AllByRecursion (IsWithinRoot root) (items_of_all xs)
-all_within me root m last [] answer here run = tt
-all_within me root m last (x ∷ xs) answer here run =
-    let ours = subst (λ (r : ℕ). IsOurs r x.call) here (ours_in m.root m.key m.phase x.call run.0) in
-    let rest = all_within me root run.3.0 last xs answer (same_root m run.3.0 x.reply run.3.1 ∙ here) run.3.2 in
-    subst (AllByRecursion (IsWithinRoot root)) (sym (first_item me x xs ours.0 run.2)) (item_within me root x.call x.reply ours.1, rest)
+pub same_root : (root : ℕ) → Lasts asks asked Fed (λ m. m.root ≡ root)
+same_root root m n reply here fed = ap (λ (x : FolderGet). x.root) fed.1 ∙ here
 
--- each call makes one item
-pub one_each : (me : Who) (m last : FolderGet) (xs : List Exchange) (answer : Answer) → From me m xs answer last → length (items_of_all xs) ≤ length xs
-one_each me m last [] answer run = omega arith
-one_each me m last (x ∷ xs) answer run = omega (arith, ap length (first_item me x xs (looks m x.call run.0) run.2), one_each me run.3.0 last xs answer run.3.2)
-
--- no more calls are counted than there are items
-few_calls : (place : Option (ℕ × ℕ)) (log : List LogItem) → calls_from place log ≤ length log
-few_calls place [] = omega arith
-few_calls place (item ∷ log) = counted (is_next place item) (calls_from (next_place item) log) (length log) (few_calls (next_place item) log)
-  where
-    counted : (b : Bool) (k n : ℕ) → k ≤ n → cond b 0 1 + k ≤ suc n
-    counted true k n h = omega arith
-    counted false k n h = omega arith
-
-pub calls_at_most : (me : Who) (m last : FolderGet) (xs : List Exchange) (answer : Answer) (most : ℕ) → From me m xs answer last → length xs ≤ most → calls_in (items_of_all xs) ≤ most
-calls_at_most me m last xs answer most run within = omega (arith, few_calls None (items_of_all xs), one_each me m last xs answer run)
+pub looks_spend : Spends asks asked Fed (λ m. left_in m.phase)
+looks_spend m n call reply e fits fed =
+    let goes = subst (λ (s : Step). Goes (slots_in m.phase) (hurt_in m.phase) (left_in m.phase) s reply (slots_in n.phase) (hurt_in n.phase) (left_in n.phase)) e (get_goes_on m n reply fed) in
+    omega (arith, looking_weight call reply (looks m call e), (goes fits).less)
 
 -- ---- one step of a run
 

@@ -1,6 +1,5 @@
 -- Which answer a lookup ends with, and that a fault is one that its log tells.
 use Rattle.std.proofs.Common.{◌≡◌, inl, inr, ℕ, Bool, true, false, cond, ltb, List, [], ◌∷◌, refl, sym, ap, ◌∙◌}
-use Rattle.std.specs.List.{list_any}
 use Rattle.cache_types.specs.declared.answer.Answer.{Answer}
 use Rattle.cache_types.specs.declared.answer.Answer.TheVariants as answers
 use Rattle.cache_types.specs.declared.limits.TheConstants.{MAX_ITEM}
@@ -19,11 +18,8 @@ use Rattle.folder_store.specs.declared.get.FolderGet.{FolderGet}
 use Rattle.folder_store.specs.declared.get.Phase.TheVariants.{Opening, Measuring, Reading, Closing, Ended}
 use Rattle.folder_store.specs.Holds.{Finds}
 use Rattle.folder_store.specs.Lookup.{IsLookupAnswer}
+use Rattle.folder_store.proofs.Items.{any_fault}
 use Rattle.folder_store.proofs.Calls.{From, Stepped, stepped, asks_at, next_of, done_is, not_done, not_ask, item_for}
-
--- a call failed among these items other than for want of memory
-abbrev pub any_fault : List LogItem → Bool
-any_fault made = list_any is_fault made
 
 -- what a run ends with: an answer of a lookup, and a fault exactly where a call failed
 pub record Outcome (answer : Answer) (made : List LogItem) (xs : List Exchange) : Type 0 where

@@ -1,5 +1,5 @@
 -- What a whole lookup does, from its Begin to its End.
-use Rattle.std.proofs.Common.{◌≡◌, ◌≤◌, ◌⊎◌, inl, inr, ◌↔◌, ℕ, length, Bool, true, false, ◌||◌, List, [], ◌∷◌, ◌++◌, Option, Some, None, refl, sym, ap, subst, ◌∙◌, arith}
+use Rattle.std.proofs.Common.{◌≡◌, ◌≤◌, ◌⊎◌, inl, inr, ℕ, true, false, List, [], ◌∷◌, ◌++◌, Option, refl, sym, ap, subst, ◌∙◌, arith}
 use Rattle.cache_types.specs.declared.answer.Answer.{Answer}
 use Rattle.cache_types.specs.declared.answer.Answer.TheVariants as answers
 use Rattle.cache_types.specs.declared.key.Key.{Key}
@@ -11,30 +11,21 @@ use Rattle.file_log.specs.declared.item.LogItem.{LogItem}
 use Rattle.file_log.specs.declared.item.LogItem.TheVariants.{Begin, End}
 use Rattle.file_log.specs.Legal.{Legal}
 use Rattle.file_log.specs.Log.{History, own}
-use Rattle.file_log.specs.Operation.{LeavesAll, is_fault}
-use Rattle.file_log.specs.State.{State, after, state_of}
-use Rattle.file_log.specs.Told.{Grows}
+use Rattle.file_log.specs.Operation.{LeavesAll, is_fault, calls_in}
+use Rattle.file_log.specs.State.{after, state_of}
 use Rattle.file_log.proofs.All.{none_keeps}
 use Rattle.files_api.specs.Drive.{items_of_all, IsEndOf, Refused, Unmade, Operated}
-use Rattle.std.proofs.lemmas.List.Folds.{list_any-append}
 use Rattle.folder_store.specs.declared.get.FolderGet.{FolderGet}
 use Rattle.folder_store.specs.declared.get.Phase.{Phase}
 use Rattle.folder_store.specs.Holds.{FolderHolds, FindsOrFails}
 use Rattle.folder_store.specs.Lookup.{IsLookupAnswer, LookedUp}
 use Rattle.folder_store.specs.Phases.{asks, asked, Fed, left_in, IsNew}
-use Rattle.folder_store.proofs.Calls.{looks, all_within, calls_at_most}
+use Rattle.folder_store.proofs.Items.{any_fault, all_within, all_counted}
+use Rattle.folder_store.proofs.Operations.{Grows-map, Legal-front, no_fault, never_fault, any_inside}
+use Rattle.folder_store.proofs.Calls.{looks, looks_within, same_root, looks_spend}
 use Rattle.folder_store.proofs.Still.{all_as_own, looking_stays, nothing_stays}
-use Rattle.folder_store.proofs.Outcome.{any_fault, outcome}
+use Rattle.folder_store.proofs.Outcome.{outcome}
 use Rattle.folder_store.proofs.Finding.{finding}
-
--- what follows on what is known of new items
-Grows-map : (old new : Option History) (P Q : History → List LogItem → Type 0) → Grows old new P → ((h : History) (news : List LogItem) → P h news → Q h news) → Grows old new Q
-Grows-map None new P Q g f = tt
-Grows-map (Some h) new P Q g f = (g.0, g.1, f h g.0 g.2)
-
-Legal-front : (s : State) (xs ys : List LogItem) → Legal s (xs ++ ys) → Legal s xs
-Legal-front s [] ys legal = tt
-Legal-front s (x ∷ xs) ys legal = (legal.0, Legal-front (after s x) xs ys legal.1)
 
 module _ (me : Who) (request : Request) (root : ℕ) (driver : DriverKeys) (key : Key) (old new : Option History) (before now : ℕ) (answer : Answer) where
   -- ---- an operation that made no call
@@ -42,33 +33,27 @@ module _ (me : Who) (request : Request) (root : ℕ) (driver : DriverKeys) (key 
   no_memory_kind : answer ≡ answers.NoMemory → IsLookupAnswer answer
   no_memory_kind e = rw e tt
 
-  no_fault : answer ≡ answers.NoMemory → answer ≡ answers.FilesFault → ⊥
-  no_fault e f = let clash : answers.NoMemory ≡ answers.FilesFault = sym e ∙ f in absurd cc
-
-  never : (made : List LogItem) → answer ≡ answers.NoMemory → any_fault made ≡ false → (answer ≡ answers.FilesFault) ↔ (any_fault made ≡ true)
-  never made e none = (λ f. absurd (no_fault e f), λ some. let clash : false ≡ true = sym none ∙ some in absurd cc)
-
   refused : Refused me old new answer → LookedUp me request root driver key old new before now answer
   refused r = record {
     kind = no_memory_kind r.answer_is;
-    cause = λ e. absurd (no_fault r.answer_is e);
+    cause = λ e. absurd (no_fault answer r.answer_is e);
     told = Grows-map old new _ _ r.told (λ h news o. record {
       operation = inl (o.own_items, r.answer_is);
       finds = λ alone. rw r.answer_is tt;
       still = all_as_own after (LeavesAll me) me (λ s item other mine. let clash : false ≡ true = sym other ∙ mine in absurd cc) (state_of h) news (none_keeps after (LeavesAll me) me (state_of h) news o.own_items);
-      fault = never (own me news) r.answer_is (ap any_fault o.own_items);
+      fault = never_fault answer (own me news) r.answer_is (ap any_fault o.own_items);
     });
   }
 
   unmade : Unmade me request old new answer → LookedUp me request root driver key old new before now answer
   unmade r = record {
     kind = no_memory_kind r.answer_is;
-    cause = λ e. absurd (no_fault r.answer_is e);
+    cause = λ e. absurd (no_fault answer r.answer_is e);
     told = Grows-map old new _ _ r.told (λ h news o. record {
       operation = inr (record { inner = []; whole = o.owns.own_items ∙ ap (λ (a : Answer). Begin me request ∷ End me a ∷ []) (sym r.answer_is); within = tt; few = omega arith });
       finds = λ alone. rw r.answer_is tt;
       still = nothing_stays me request news (state_of h) o.owns.own_items o.owns.legal o.owns.goes_on;
-      fault = never (own me news) r.answer_is (ap any_fault o.owns.own_items);
+      fault = never_fault answer (own me news) r.answer_is (ap any_fault o.owns.own_items);
     });
   }
 
@@ -81,7 +66,7 @@ module _ (me : Who) (request : Request) (root : ℕ) (driver : DriverKeys) (key 
 
   fault_given : (given : Answer) → IsEndOf given answer → answer ≡ answers.FilesFault → given ≡ answers.FilesFault
   fault_given given (inl e) f = sym e ∙ f
-  fault_given given (inr lack) f = absurd (no_fault lack.0 f)
+  fault_given given (inr lack) f = absurd (no_fault answer lack.0 f)
 
   fault_told : (given : Answer) → IsEndOf given answer → given ≡ answers.FilesFault → answer ≡ answers.FilesFault
   fault_told given (inl e) f = e ∙ f
@@ -91,30 +76,22 @@ module _ (me : Who) (request : Request) (root : ℕ) (driver : DriverKeys) (key 
   end_finds given Held (inl e) finds = rw e finds
   end_finds given Held (inr lack) finds = rw lack.0 tt
 
-  -- its Begin and its End are no faults
-  any_inside : (inner : List LogItem) → any_fault (Begin me request ∷ (inner ++ End me answer ∷ [])) ≡ any_fault inner
-  any_inside inner = list_any-append is_fault inner (End me answer ∷ []) ∙ or_none (any_fault inner)
-    where
-      or_none : (b : Bool) → (b || false) ≡ b
-      or_none true = refl
-      or_none false = refl
-
   operated : (IsMade : FolderGet → Type 0) → ((m : FolderGet) → IsMade m → IsNew root driver key m) → IsDriver driver → Operated asks asked Fed (λ m. left_in m.phase) IsMade me request old new before now answer
       → LookedUp me request root driver key old new before now answer
   operated IsMade is_new fits r =
       let begun = is_new r.first r.made in
       let inner = items_of_all r.exchanges in
       let out = outcome me r.first r.last r.exchanges r.given begun.opening r.runs in
-      let few : length r.exchanges ≤ 4 = subst (λ (p : Phase). length r.exchanges ≤ left_in p) begun.opening r.within in
+      let few : calls_in inner ≤ 4 = subst (λ (p : Phase). calls_in inner ≤ left_in p) begun.opening (all_counted asks asked Fed me (λ m. left_in m.phase) looks_spend r.first r.last r.exchanges r.given r.runs) in
       record {
         kind = end_kind r.given r.answer_is out.kind;
         cause = λ e. r.counts.rose (out.failed (fault_given r.given r.answer_is e));
         told = Grows-map old new _ _ r.told (λ h news o. record {
-          operation = inr (record { inner = inner; whole = o.owns.own_items; within = all_within me root r.first r.last r.exchanges r.given begun.root_is r.runs; few = calls_at_most me r.first r.last r.exchanges r.given 4 r.runs few });
+          operation = inr (record { inner = inner; whole = o.owns.own_items; within = all_within asks asked Fed me root (λ m. m.root ≡ root) (looks_within root) (same_root root) r.first r.last r.exchanges r.given begun.root_is r.runs; few = few });
           finds = λ alone. end_finds r.given _ r.answer_is (found r begun fits h news (sym alone ∙ o.owns.own_items) o.owns.legal);
           still = looking_stays asks asked Fed me looks r.first request answer news (state_of h) r.exchanges r.given r.last r.runs r.answer_is o.owns.own_items o.owns.legal o.owns.goes_on;
           fault =
-              let same : any_fault (own me news) ≡ any_fault inner = ap any_fault o.owns.own_items ∙ any_inside inner in
+              let same : any_fault (own me news) ≡ any_fault inner = ap any_fault o.owns.own_items ∙ any_inside is_fault me request answer inner refl refl in
               (λ e. same ∙ out.told (fault_given r.given r.answer_is e), λ some. fault_told r.given r.answer_is (out.only (sym same ∙ some)));
         });
       }

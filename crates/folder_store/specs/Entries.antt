@@ -1,5 +1,5 @@
 -- Entries that are whole, and what other seats may do beside a put.
-use Rattle.std.specs.Prelude.{◌≡◌, ◌⊎◌, ℕ, Bool, true, false, List, [], ◌∷◌, ◌++◌, Some}
+use Rattle.std.specs.Prelude.{◌≡◌, ◌⊎◌, ℕ, Bool, false, List, [], ◌∷◌, ◌++◌, Some}
 use Rattle.cache_types.specs.Driver.{DriverKeys, Fronts}
 use Rattle.cache_types.specs.declared.key.Key.{Key}
 use Rattle.cache_types.specs.declared.name.Name.TheVariants.{Entry, Temp}

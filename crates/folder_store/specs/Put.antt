@@ -109,8 +109,8 @@ is_want item = false
 
 -- A seat put a blob into a folder store: a history h went on by these new items.
 pub record Puts (me : Who) (request : Request) (root : ℕ) (driver : DriverKeys) (key : Key) (blob : List ℕ) (answer : Answer) (h : History) (news : List LogItem) : Type 0 where
-  -- nothing was begun for want of memory, or its own items are one operation of at most fifteen calls in this root
-  pub operation : ((own me news ≡ []) × (answer ≡ NoMemory)) ⊎ IsOperation me request root 15 answer (own me news)
+  -- nothing was begun for want of memory, or its own items are one operation of at most fourteen calls in this root
+  pub operation : ((own me news ≡ []) × (answer ≡ NoMemory)) ⊎ IsOperation me request root 14 answer (own me news)
   -- what it does where all new items are its own
   pub alone : own me news ≡ news → PutsAlone me root driver key blob answer (disk_of h) (disk_of (with_items h news)) (own me news)
   -- where others leave the key's entry and its temporary file alone, it is not the first whose item leaves an entry that isn't whole

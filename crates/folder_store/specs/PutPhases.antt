@@ -1,5 +1,5 @@
 -- A put into a folder store, call by call.
-use Rattle.std.specs.Prelude.{◌≡◌, ◌⊎◌, ℕ, Bool, true, false, nat_eq, nat_lt, ◌||◌, if◌then◌else◌, List, []}
+use Rattle.std.specs.Prelude.{◌≡◌, ◌⊎◌, ℕ, Bool, true, false, nat_eq, nat_lt, if◌then◌else◌, List, []}
 use Rattle.cache_types.specs.declared.answer.Answer.{Answer}
 use Rattle.cache_types.specs.declared.answer.Answer.TheVariants.{Stored, Kept, NoMemory}
 use Rattle.cache_types.specs.declared.key.Key.{Key}
@@ -81,6 +81,11 @@ closing answer true temp = ClosingEntry answer temp
 closing answer false true = ClosingTemp answer
 closing answer false false = Ended answer
 
+-- a call that isn't done ends the put
+abbrev pub unless_done : Reply → Bool → Bool → PutPhase → PutPhase
+unless_done replies.Done entry temp next = next
+unless_done reply entry temp next = closing (fault reply) entry temp
+
 -- a file that is too long for an item holds none
 abbrev pub too_long : Look → PutPhase
 too_long First = Leaving
@@ -118,16 +123,11 @@ next_put (Measuring look) reply = closing (fault reply) true false
 next_put (Reading look length) reply = closing (fault reply) true false
 next_put ReadingFront reply = closing (fault reply) true false
 next_put Leaving reply = Opening Second
-next_put Evicted replies.Done = Making true
-next_put Evicted reply = closing (fault reply) true false
-next_put (Making entry) replies.Done = Cutting entry
-next_put (Making entry) reply = closing (fault reply) entry false
-next_put (Cutting entry) replies.Done = Writing entry
-next_put (Cutting entry) reply = closing (fault reply) entry true
-next_put (Writing entry) replies.Done = Renaming entry
-next_put (Writing entry) reply = closing (fault reply) entry true
-next_put (Renaming entry) replies.Done = closing Stored entry true
-next_put (Renaming entry) reply = closing (fault reply) entry true
+next_put Evicted reply = unless_done reply true false (Making true)
+next_put (Making entry) reply = unless_done reply entry false (Cutting entry)
+next_put (Cutting entry) reply = unless_done reply entry true (Writing entry)
+next_put (Writing entry) reply = unless_done reply entry true (Renaming entry)
+next_put (Renaming entry) reply = unless_done reply entry true (closing Stored entry true)
 next_put (ClosingEntry answer temp) reply = closing answer false temp
 next_put (ClosingTemp answer) reply = Ended answer
 next_put phase reply = Spent

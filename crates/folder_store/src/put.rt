@@ -1,7 +1,7 @@
 ghost use Rattle.std.specs.Prelude.{◌≡◌};
 ghost use Rattle.cache_types.specs.Driver.{Fronts};
 ghost use Rattle.folder_store.specs.Phases.{fault};
-ghost use Rattle.folder_store.specs.PutPhases.{IsNewPut, NextPut, Judged, Fronted, opened as the_opened, measured as the_measured, closing as the_closing, given_in, after_giving};
+ghost use Rattle.folder_store.specs.PutPhases.{IsNewPut, NextPut, Judged, Fronted, opened as the_opened, measured as the_measured, closing as the_closing, unless_done as the_unless_done, given_in, after_giving};
 
 use crate::get::fault_of;
 use cache_types::{Answer, Bytes, Driver, Key, Layout, MAX_ITEM, Name, Store};
@@ -159,6 +159,16 @@ fn opened(look: Look, reply: Reply) -> PutPhase
     }
 }
 
+/// What follows on a call that is done, and the end after another.
+fn unless_done(reply: &Reply, entry: bool, temp: bool, next: PutPhase) -> PutPhase
+    ensures { result ≡ the_unless_done reply.now entry temp next }
+{
+    match reply {
+        Reply::Done => next,
+        other => closing(fault_of(other), entry, temp),
+    }
+}
+
 /// The phase after a reply.
 fn next_phase(driver: &Driver, phase: PutPhase, reply: Reply) -> PutPhase
     ensures { NextPut driver.now phase reply result }
@@ -168,26 +178,25 @@ fn next_phase(driver: &Driver, phase: PutPhase, reply: Reply) -> PutPhase
         (PutPhase::Measuring(look), Reply::Number(length)) => measured(look, length),
         (PutPhase::Reading(look, _), Reply::Got(bytes)) => judged(driver, look, bytes),
         (PutPhase::ReadingFront, Reply::Got(bytes)) => fronted(bytes),
+        (PutPhase::Measuring(_) | PutPhase::Reading(_, _) | PutPhase::ReadingFront, other) => {
+            closing(fault_of(&other), true, false)
+        }
         (PutPhase::Leaving, _) => PutPhase::Opening(Look::Second),
-        (PutPhase::Evicted, Reply::Done) => PutPhase::Making { entry: true },
-        (
-            PutPhase::Measuring(_)
-            | PutPhase::Reading(_, _)
-            | PutPhase::ReadingFront
-            | PutPhase::Evicted,
-            other,
-        ) => closing(fault_of(&other), true, false),
-        (PutPhase::Making { entry }, Reply::Done) => PutPhase::Cutting { entry },
-        (PutPhase::Making { entry }, other) => closing(fault_of(&other), entry, false),
-        (PutPhase::Cutting { entry }, Reply::Done) => PutPhase::Writing { entry },
-        (PutPhase::Writing { entry }, Reply::Done) => PutPhase::Renaming { entry },
-        (PutPhase::Renaming { entry }, Reply::Done) => closing(Answer::Stored, entry, true),
-        (
-            PutPhase::Cutting { entry }
-            | PutPhase::Writing { entry }
-            | PutPhase::Renaming { entry },
-            other,
-        ) => closing(fault_of(&other), entry, true),
+        (PutPhase::Evicted, reply) => {
+            unless_done(&reply, true, false, PutPhase::Making { entry: true })
+        }
+        (PutPhase::Making { entry }, reply) => {
+            unless_done(&reply, entry, false, PutPhase::Cutting { entry })
+        }
+        (PutPhase::Cutting { entry }, reply) => {
+            unless_done(&reply, entry, true, PutPhase::Writing { entry })
+        }
+        (PutPhase::Writing { entry }, reply) => {
+            unless_done(&reply, entry, true, PutPhase::Renaming { entry })
+        }
+        (PutPhase::Renaming { entry }, reply) => {
+            unless_done(&reply, entry, true, closing(Answer::Stored, entry, true))
+        }
         (PutPhase::ClosingEntry { answer, temp }, _) => closing(answer, false, temp),
         (PutPhase::ClosingTemp(answer), _) => PutPhase::Ended(answer),
         (PutPhase::Evicting(_) | PutPhase::Ended(_) | PutPhase::Spent, _) => PutPhase::Spent,

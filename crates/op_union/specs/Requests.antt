@@ -28,6 +28,10 @@ IsBuilt (requests.Get store driver key ro) = (store.layout ≡ Folder) × (ro.na
 IsBuilt (requests.Put store driver key meta blob limit) = (store.layout ≡ Folder) × (key_count meta ≤ MAX_KEYS)
 IsBuilt request = ⊥
 
+abbrev pub IsPut : Request → Type 0
+IsPut (requests.Put store driver key meta blob limit) = Unit {0}
+IsPut request = ⊥
+
 -- the store that a request speaks of, where it is one
 abbrev pub store_of : Request → Option Store
 store_of (requests.Get store driver key ro) = Some store

@@ -1,7 +1,11 @@
 //! All operations: [`run_op`] does any request over any files.
 #![tactic(auto)]
 
+mod get;
+mod given;
+mod large;
 mod operation;
+mod put;
 mod state;
 
 pub use operation::run_op;

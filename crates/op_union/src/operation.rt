@@ -1,39 +1,33 @@
-ghost use Rattle.std.specs.Prelude.{◌≡◌, ◌≤◌};
+ghost use Rattle.std.specs.Prelude.{◌≡◌, ◌≤◌, ◌↔◌, IsTrue};
 ghost use Rattle.file_log.specs.Seat.{IsIdle};
-ghost use Rattle.folder_store.specs.Lookup.{LookedUp};
-ghost use Rattle.op_union.specs.Requests.{IsBuilt, Belongs, store_of, kept_after, Operates};
+ghost use Rattle.op_union.specs.Requests.{IsBuilt, IsPut, Belongs, store_of as the_store, kept_after, Operates};
 
+use crate::get::get_from_folder;
+use crate::put::put_in_folder;
 use crate::state::SeatState;
-use cache_types::{Answer, Driver, Key, Request, RoPlan, Store};
+use cache_types::{Answer, Request, Store};
 use files_api::Files;
-use folder_store::folder_get;
 use std::alloc::Global;
 
-/// Looks a key up in a folder store. The driver is copied, since the Begin keeps one.
-fn look_up<F: Files>(
-    alloc: Global,
-    files: &mut F,
-    store: Store,
-    driver: Driver,
-    key: Key,
-    ro: RoPlan,
-) -> Answer
-    requires { IsIdle (F.seen files.old) }
-    ensures done { LookedUp (F.me files.old) (Request.Get store driver key ro) store.root driver key (F.history files.old) (F.history files.new) (F.faults files.old) (F.faults files.new) result }
-    ensures idle { IsIdle (F.seen files.new) }
-    ensures me { F.me files.new ≡ F.me files.old }
-    ensures faults { F.faults files.old ≤ F.faults files.new }
+/// Whether a request is a put.
+fn is_put(request: &Request) -> bool
+    ensures { IsTrue result ↔ IsPut request.now }
 {
-    let Ok(told) = driver.copy() else {
-        return Answer::NoMemory;
-    };
-    let request = Request::Get {
-        store,
-        driver: told,
-        key,
-        ro,
-    };
-    folder_get(alloc, files, store.root, driver, key, request)
+    matches!(request, Request::Put { .. })
+}
+
+/// The store that a request speaks of, where it is one.
+fn store_of(request: &Request) -> Option<Store>
+    ensures { result ≡ the_store request.now }
+{
+    match request {
+        Request::Get { store, .. }
+        | Request::Put { store, .. }
+        | Request::Keys { store, .. }
+        | Request::Verify { store }
+        | Request::Trim { store, .. } => Some(*store),
+        Request::HasKey { .. } | Request::PutKey { .. } => None,
+    }
 }
 
 /// Does a request: tells its Begin, makes its calls, and tells its End.
@@ -48,23 +42,19 @@ pub fn run_op<F: Files>(
 ) -> Answer
     requires idle { IsIdle (F.seen files.old) }
     requires built { IsBuilt request }
-    requires belongs { Belongs state.old.store (store_of request) }
+    requires belongs { Belongs state.old.store (the_store request) }
     ensures done { Operates (F.me files.old) request (F.history files.old) (F.history files.new) (F.faults files.old) (F.faults files.new) result }
     ensures idle { IsIdle (F.seen files.new) }
     ensures me { F.me files.new ≡ F.me files.old }
     ensures faults { F.faults files.old ≤ F.faults files.new }
-    ensures store { state.new.store ≡ kept_after state.old.store (store_of request) }
+    ensures store { state.new.store ≡ kept_after state.old.store (the_store request) }
 {
-    match request {
-        Request::Get {
-            store,
-            driver,
-            key,
-            ro,
-        } => {
-            state.store = Some(store);
-            look_up(alloc, files, store, driver, key, ro)
-        }
-        _ => Answer::NoMemory,
+    if let Some(store) = store_of(&request) {
+        state.store = Some(store);
+    }
+    if is_put(&request) {
+        put_in_folder(alloc, files, request)
+    } else {
+        get_from_folder(alloc, files, request)
     }
 }

@@ -31,7 +31,7 @@ calls-preserved g c =
     record {
       calm = λ e. goes.covers (hurt_then seen (m.slots now) (m.hurt now) call reply same within c.calls.invariant.calm (sym c.call-reply.ensures.seen.hurt ∙ e));
       slots = λ at. c.call-reply.ensures.seen.filled at ∙ filled_then seen (m.slots now) (m.hurt now) call reply same within at ∙ sym (goes.filled at);
-      inside = c.call-reply.ensures.seen.inside ∙ inside_then seen (m.slots now) (m.hurt now) call reply same within allows.2;
+      inside = c.call-reply.ensures.seen.inside ∙ inside_then seen (m.slots now) (m.hurt now) call reply same within allows.1;
       me = c.call-reply.ensures.me ∙ c.calls.invariant.me;
       so_far = goes_on _ _ _ _ _ _ _ _ now next _ (f.history c.calls.files) _ _ _ _ call reply c.calls.invariant.so_far is fits fed goes.less c.call-reply.ensures.cause (rw c.calls.invariant.me at told);
     }
