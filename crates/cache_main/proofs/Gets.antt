@@ -30,8 +30,8 @@ module _ (words : List (List ℕ)) (a : Ask) (asks : IsAsk words a) (get : a.com
 
   -- so it is served, unless there is no memory to begin
   pub get_served : {R P Q S : Type 0} (status : Status) (left left' : Option (List ℕ)) → (status ≡ statuses.Usage → HasNoReading words) → (status ≡ statuses.BadKey → HasBadKey words) → (status ≡ statuses.ReadFault → AsksFor Put words × R) → ((count : ℕ) → status ≡ statuses.TooLarge count → RefusesBlob words count left left')
-      → IsRefused status ⊎ IsUnread status ⊎ ((status ≡ statuses.NoMemory) × P × Q) ⊎ S → (status ≡ statuses.NoMemory) ⊎ S
+      → IsRefused status ⊎ IsUnread status ⊎ ((status ≡ statuses.NoMemory) × P × Q) ⊎ S → ((status ≡ statuses.NoMemory) × P × Q) ⊎ S
   get_served status left left' usage bad fault large (inl refused) = absurd (words_fit status usage bad refused)
   get_served status left left' usage bad fault large (inr (inl unread)) = absurd (reads_nothing status left left' fault large unread)
-  get_served status left left' usage bad fault large (inr (inr (inl none))) = inl none.0
+  get_served status left left' usage bad fault large (inr (inr (inl none))) = inl none
   get_served status left left' usage bad fault large (inr (inr (inr served))) = inr served

@@ -4,6 +4,7 @@ pub mod GivenBack
 pub mod Elements
 pub mod Pairs
 pub mod Pieces
+pub mod Puts
 pub mod Readings
 pub mod Serving
 pub mod Statuses

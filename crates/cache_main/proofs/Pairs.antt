@@ -1,6 +1,6 @@
 -- A put and a get of the same key that were served.
-use Rattle.std.proofs.Common.{◌≡◌, ◌≤◌, ◌⊎◌, inl, inr, ℕ, List, Option, refl, sym, ap, subst, ◌∙◌, arith}
-use Rattle.cache_key.specs.Digits.{IsKeyText, Spells}
+use Rattle.std.proofs.Common.{◌≡◌, ◌≤◌, ◌⊎◌, inl, inr, ℕ, List, Option, sym, ap, subst, ◌∙◌, arith}
+use Rattle.cache_key.specs.Digits.{Spells}
 use Rattle.cache_types.specs.declared.key.Key.{Key}
 use Rattle.cache_types.specs.declared.request.Request.{Request}
 use Rattle.cache_types.specs.declared.seat.Who.{Who}
@@ -13,8 +13,8 @@ use Rattle.cache_main.specs.declared.words.Command.TheVariants.{Get, Put}
 use Rattle.cache_main.specs.Printing.{IsPrinted}
 use Rattle.cache_main.specs.Requests.{driver_of, request_of, IsBlobFor}
 use Rattle.cache_main.specs.RoundTrip.{IsLone, ArePair, FindsAgain}
-use Rattle.cache_main.specs.Top.{HasBadKey, RefusesBlob, IsRefused, IsUnread, Served}
-use Rattle.cache_main.specs.Words.{Ask, IsAsk, HasNoReading, AsksFor}
+use Rattle.cache_main.specs.Top.{IsRefused, IsUnread, Served}
+use Rattle.cache_main.specs.Words.{Ask, IsAsk}
 use Rattle.cache_main.proofs.GivenBack.{given_back}
 use Rattle.cache_main.proofs.Readings.{one_reading}
 
@@ -48,8 +48,8 @@ module _ (puts gets : List (List ℕ)) (pair : ArePair puts gets) where
     found_again lone lone' later more =
         let put = request_of (record pair.ask { command = Put }) pair.key stored.blob in
         let get = request_of (record pair.ask { command = Get; key = pair.text }) pair.key found.blob in
-        let put_is : request_of stored.ask stored.key stored.blob ≡ put = same_request puts stored.ask (record pair.ask { command = Put }) stored.key pair.key stored.blob stored.reads pair.puts stored.spells pair.spelled in
-        let get_is : request_of found.ask found.key found.blob ≡ get = same_request gets found.ask (record pair.ask { command = Get; key = pair.text }) found.key pair.key found.blob found.reads pair.gets found.spells pair.respelled in
+        let put_is : request_of stored.ask stored.key stored.blob ≡ put = same_request puts stored.ask (record pair.ask { command = Put }) stored.key pair.key stored.blob stored.reads pair.puts stored.spells pair.put_key.1 in
+        let get_is : request_of found.ask found.key found.blob ≡ get = same_request gets found.ask (record pair.ask { command = Get; key = pair.text }) found.key pair.key found.blob found.reads pair.gets found.spells pair.get_key.1 in
         let whole : IsBlobFor Put left left' stored.blob = subst (λ (command : Command). IsBlobFor command left left' stored.blob) (same_command puts stored.ask (record pair.ask { command = Put }) stored.reads pair.puts) stored.taken in
         let done = subst (λ (r : Request). Operates me r old mid before between stored.answer) put_is stored.done in
         let printed = subst (λ (r : Request). IsPrinted r stored.answer statuses.Ok w w' f f') put_is stored.printed in
@@ -60,12 +60,12 @@ module _ (puts gets : List (List ℕ)) (pair : ArePair puts gets) where
           | inr large ↦ absurd (omega (arith, whole.fits, large.0))
         ]
 
-  pub finds_again : (me me' : Who) (first status : Status) (old mid new : Option History) (before between now : ℕ) (left left' left'' w w' w'' : Option (List ℕ)) (f f' f'' : ℕ)
+  pub finds_again : {P Q : Type 0} (me me' : Who) (first status : Status) (old mid new : Option History) (before between now : ℕ) (left left' left'' w w' w'' : Option (List ℕ)) (f f' f'' : ℕ)
       → first ≡ statuses.Ok → me' ≡ me → left'' ≡ left' → Served puts me first old mid before between left left' w w' f f'
-      → (status ≡ statuses.NoMemory) ⊎ Served gets me' status mid new between now left' left'' w' w'' f' f'' → IsLone me old → IsLone me new → before ≤ between → f ≤ f'
+      → ((status ≡ statuses.NoMemory) × P × Q) ⊎ Served gets me' status mid new between now left' left'' w' w'' f' f'' → IsLone me old → IsLone me new → before ≤ between → f ≤ f'
       → FindsAgain status new (driver_of pair.ask) pair.key before now left left'' w w'' f f''
   finds_again me me' first status old mid new before between now left left' left'' w w' w'' f f' f'' well same kept stored (inl none) lone lone' later more =
-      subst (λ (s : Status). FindsAgain s new (driver_of pair.ask) pair.key before now left left'' w w'' f f'') (sym none) tt
+      subst (λ (s : Status). FindsAgain s new (driver_of pair.ask) pair.key before now left left'' w w'' f f'') (sym none.0) tt
   finds_again me me' first status old mid new before between now left left' left'' w w' w'' f f' f'' well same kept stored (inr found) lone lone' later more =
       let ok = subst (λ (s : Status). Served puts me s old mid before between left left' w w' f f') well stored in
       let mine = subst (λ (who : Who). Served gets who status mid new between now left' left'' w' w'' f' f'') same found in

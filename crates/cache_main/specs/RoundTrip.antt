@@ -12,7 +12,7 @@ use Rattle.folder_store.specs.Holds.{FolderHolds}
 use Rattle.report_text.specs.declared.status.Status.{Status}
 use Rattle.report_text.specs.declared.status.Status.TheVariants as statuses
 use Rattle.cache_main.specs.declared.words.Command.TheVariants.{Get, Put}
-use Rattle.cache_main.specs.Reading.{IsReadOut}
+use Rattle.cache_main.specs.Reading.{IsReadOut, TakesTooMany}
 use Rattle.cache_main.specs.Words.{Ask, IsAsk}
 
 -- the files tell one seat alone: each item of their log is its own
@@ -20,16 +20,29 @@ abbrev pub IsLone : Who → Option History → Type 0
 IsLone me None = ⊥
 IsLone me (Some h) = own me h.log ≡ h.log
 
--- the words ask for a put, and others for a get of the same key, whose text may have digits of another case, for the same driver and root
+-- the text is the key, in digits of either case
+abbrev pub IsTextOf : List ℕ → Key → Type 0
+IsTextOf text key = IsKeyText text × Spells text key
+
+-- the words ask for a put, and others for a get of the same key for the same driver and root
 pub record ArePair (put get : List (List ℕ)) : Type 0 where
   pub ask : Ask
   pub text : List ℕ
   pub puts : IsAsk put (record ask { command = Put })
   pub gets : IsAsk get (record ask { command = Get; key = text })
   pub key : Key
-  pub is_key : IsKeyText text
-  pub spelled : Spells ask.key key
-  pub respelled : Spells text key
+  pub put_key : IsTextOf ask.key key
+  pub get_key : IsTextOf text key
+
+-- the put ends well, unless memory ran out, a fault was counted, or its blob is too large
+abbrev pub PutEnds : Status → ℕ → ℕ → Option (List ℕ) → Option (List ℕ) → ℕ → ℕ → ℕ → ℕ → Type 0
+PutEnds statuses.Ok before now left left' lost lost' failed failed' = Unit {0}
+PutEnds statuses.NoMemory before now left left' lost lost' failed failed' = Unit {0}
+PutEnds statuses.FilesFault before now left left' lost lost' failed failed' = Rose before now
+PutEnds statuses.ReadFault before now left left' lost lost' failed failed' = Rose lost lost'
+PutEnds statuses.WriteFault before now left left' lost lost' failed failed' = Rose failed failed'
+PutEnds (statuses.TooLarge count) before now left left' lost lost' failed failed' = TakesTooMany count left left'
+PutEnds status before now left left' lost lost' failed failed' = ⊥
 
 -- the store holds the blob after this history
 abbrev pub HoldsAfter : Option History → DriverKeys → Key → List ℕ → Type 0
@@ -44,7 +57,7 @@ pub record GivesBack (history : Option History) (driver : DriverKeys) (key : Key
   pub lines : ((line ≡ codes "stored\n") × IsReadOut left left' blob) ⊎ (line ≡ codes "kept\n")
   pub printed : IsAdded written written' (line ++ blob)
 
--- the get gives it back, unless memory ran out or a fault was counted
+-- the get that follows gives it back, unless memory ran out or a fault was counted
 abbrev pub FindsAgain : Status → Option History → DriverKeys → Key → ℕ → ℕ → Option (List ℕ) → Option (List ℕ) → Option (List ℕ) → Option (List ℕ) → ℕ → ℕ → Type 0
 FindsAgain statuses.Ok history driver key before now left left' written written' failed failed' = GivesBack history driver key left left' written written'
 FindsAgain statuses.NoMemory history driver key before now left left' written written' failed failed' = Unit {0}

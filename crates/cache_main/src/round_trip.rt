@@ -1,7 +1,7 @@
 ghost use Rattle.std.specs.Prelude.{◌≡◌, map, string_bytes};
 ghost use Rattle.file_log.specs.Seat.{IsIdle};
 ghost use Rattle.cache_main.specs.Requests.{driver_of};
-ghost use Rattle.cache_main.specs.RoundTrip.{IsLone, ArePair, FindsAgain};
+ghost use Rattle.cache_main.specs.RoundTrip.{IsLone, ArePair, PutEnds, FindsAgain};
 
 use crate::top::run;
 use files_api::{Files, Sink, Source};
@@ -15,11 +15,11 @@ pub struct RoundTrip {
     pub get: Status,
 }
 
-/// A put, and then a get, by [`run`].
+/// A put, and then a get of the same key for the same driver and root, by [`run`].
 ///
-/// Where the get asks for the key that was put, for the same driver and root, and no other seat acts, a put
-/// that ends well is given back: the get ends well and writes the blob that the store holds, which is the
-/// put's own where its line is `stored`. Else memory ran out in the get, or a call failed.
+/// The put ends well, unless memory ran out, a fault was counted, or its blob is too large. Where it does and
+/// no other seat acts, the get ends well too, unless memory ran out or a fault was counted: it writes the blob
+/// that the store holds, which is the put's own where the put's line is `stored`.
 pub fn put_then_get<F: Files, S: Source, K: Sink>(
     alloc: Global,
     put: &[String],
@@ -30,6 +30,7 @@ pub fn put_then_get<F: Files, S: Source, K: Sink>(
     out: &mut K,
 ) -> RoundTrip
     requires { IsIdle (F.seen files.old) }
+    ensures stored { ArePair (map string_bytes put.now) (map string_bytes get.now) → PutEnds result.put (F.faults files.old) (F.faults files.new) (S.left source.old) (S.left source.new) (S.faults source.old) (S.faults source.new) (K.faults out.old) (K.faults out.new) }
     ensures found { (pair : ArePair (map string_bytes put.now) (map string_bytes get.now)) → IsLone (F.me files.old) (F.history files.old) → IsLone (F.me files.old) (F.history files.new) → result.put ≡ Status.Ok
         → FindsAgain result.get (F.history files.new) (driver_of pair.ask) pair.key (F.faults files.old) (F.faults files.new) (S.left source.old) (S.left source.new) (K.written out.old) (K.written out.new) (K.faults out.old) (K.faults out.new) }
     ensures idle { IsIdle (F.seen files.new) }
