@@ -1,4 +1,10 @@
+pub mod AllOwn
+pub mod Gets
+pub mod GivenBack
 pub mod Elements
+pub mod Pairs
 pub mod Pieces
 pub mod Readings
+pub mod Serving
 pub mod Statuses
+pub mod Taking

@@ -1,13 +1,9 @@
 -- Bytes written piece by piece.
-use Rattle.std.proofs.Common.{◌≡◌, ◌≤◌, ◌<◌, ◌+◌, ◌-◌, ℕ, List, [], ◌∷◌, ◌++◌, length, take, drop, Option, Some, None, refl, sym, ap, subst, ◌∙◌, arith, append_assoc, take-add}
+use Rattle.std.proofs.Common.{◌≡◌, ◌≤◌, ◌+◌, ◌-◌, ℕ, List, [], ◌++◌, length, take, drop, Option, Some, None, refl, sym, ap, subst, ◌∙◌, arith, append_assoc, take-add}
 use Rattle.std.proofs.lemmas.List.{length-drop, drop-drop, append-nil, take_all}
-use Rattle.file_log.specs.Told.{Rose}
-use Rattle.files_api.specs.Streams.{IsAdded, IsWritten, HasFault}
-use Rattle.files_api.specs.declared.took.Took.{Took}
-use Rattle.files_api.specs.declared.took.Took.TheVariants as took
-use Rattle.cache_main.specs.Printing.{IsCutOff, IsWhole}
+use Rattle.files_api.specs.Streams.{IsAdded}
 
-added_then : (a b c : Option (List ℕ)) (xs ys zs : List ℕ) → xs ++ ys ≡ zs → IsAdded a b xs → IsAdded b c ys → IsAdded a c zs
+pub added_then : (a b c : Option (List ℕ)) (xs ys zs : List ℕ) → xs ++ ys ≡ zs → IsAdded a b xs → IsAdded b c ys → IsAdded a c zs
 added_then None b c xs ys zs e p q = tt
 added_then (Some written) b c xs ys zs e p q =
     let q' : IsAdded (Some (written ++ xs)) c ys = subst (λ (o : Option (List ℕ)). IsAdded o c ys) p q in

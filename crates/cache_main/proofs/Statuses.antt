@@ -1,52 +1,92 @@
--- The status that a lookup ends with.
-use Rattle.std.proofs.Common.{◌≡◌, ◌⊎◌, inl, inr, ℕ, List, Option, refl, sym, ap, ◌∙◌}
+-- Which statuses a call ends with.
+use Rattle.std.proofs.Common.{◌≡◌, ◌≤◌, ◌⊎◌, inl, inr, ℕ, List, Option, refl, sym, subst, ◌∙◌}
 use Rattle.cache_types.specs.declared.answer.Answer.{Answer}
 use Rattle.cache_types.specs.declared.answer.Answer.TheVariants as answers
 use Rattle.cache_types.specs.declared.request.Request.{Request}
 use Rattle.file_log.specs.Told.{Rose}
 use Rattle.folder_store.specs.Lookup.{IsLookupAnswer}
+use Rattle.folder_store.specs.Put.{IsPutAnswer}
 use Rattle.report_text.specs.declared.status.Status.{Status}
-use Rattle.report_text.specs.declared.status.Status.TheVariants.{Usage, BadKey, FilesFault, WriteFault}
+use Rattle.report_text.specs.declared.status.Status.TheVariants as statuses
 use Rattle.report_text.specs.Outcomes.{status_of_answer}
-use Rattle.cache_main.specs.Top.{IsPrinted}
+use Rattle.cache_main.specs.declared.reading.ReadRefusal.{ReadRefusal}
+use Rattle.cache_main.specs.declared.reading.ReadRefusal.TheVariants as refusals
+use Rattle.cache_main.specs.Printing.{IsPrinted}
+use Rattle.cache_main.specs.Top.{IsRefused, IsUnread, status_of_refusal}
 
-usage_apart : (a : Answer) → IsLookupAnswer a → status_of_answer a ≡ Usage → ⊥
-usage_apart (answers.Hit blob) k e = cc
-usage_apart answers.Miss k e = cc
-usage_apart answers.FilesFault k e = cc
-usage_apart answers.NoMemory k e = cc
-usage_apart a k e = absurd k
+-- an answer that a get or a put ends with
+abbrev pub IsEnd : Answer → Type 0
+IsEnd (answers.Hit blob) = Unit {0}
+IsEnd answers.Miss = Unit {0}
+IsEnd answers.Stored = Unit {0}
+IsEnd answers.Kept = Unit {0}
+IsEnd answers.FilesFault = Unit {0}
+IsEnd answers.NoMemory = Unit {0}
+IsEnd answer = ⊥
 
-bad_key_apart : (a : Answer) → IsLookupAnswer a → status_of_answer a ≡ BadKey → ⊥
-bad_key_apart (answers.Hit blob) k e = cc
-bad_key_apart answers.Miss k e = cc
-bad_key_apart answers.FilesFault k e = cc
-bad_key_apart answers.NoMemory k e = cc
-bad_key_apart a k e = absurd k
+pub lookup_ends : (a : Answer) → IsLookupAnswer a → IsEnd a
+lookup_ends (answers.Hit blob) k = tt
+lookup_ends answers.Miss k = tt
+lookup_ends answers.FilesFault k = tt
+lookup_ends answers.NoMemory k = tt
+lookup_ends a k = absurd k
 
-write_fault_apart : (a : Answer) → IsLookupAnswer a → status_of_answer a ≡ WriteFault → ⊥
-write_fault_apart (answers.Hit blob) k e = cc
-write_fault_apart answers.Miss k e = cc
-write_fault_apart answers.FilesFault k e = cc
-write_fault_apart answers.NoMemory k e = cc
-write_fault_apart a k e = absurd k
+pub put_ends : (a : Answer) → IsPutAnswer a → IsEnd a
+put_ends answers.Stored k = tt
+put_ends answers.Kept k = tt
+put_ends answers.FilesFault k = tt
+put_ends answers.NoMemory k = tt
+put_ends a k = absurd k
 
-fault_back : (a : Answer) → IsLookupAnswer a → status_of_answer a ≡ FilesFault → a ≡ answers.FilesFault
+-- none of them says that the words or the source are refused
+apart : (a : Answer) → IsEnd a → IsRefused (status_of_answer a) ⊎ IsUnread (status_of_answer a) → ⊥
+apart (answers.Hit blob) k e = elim e [ inl r ↦ r | inr u ↦ u ]
+apart answers.Miss k e = elim e [ inl r ↦ r | inr u ↦ u ]
+apart answers.Stored k e = elim e [ inl r ↦ r | inr u ↦ u ]
+apart answers.Kept k e = elim e [ inl r ↦ r | inr u ↦ u ]
+apart answers.FilesFault k e = elim e [ inl r ↦ r | inr u ↦ u ]
+apart answers.NoMemory k e = elim e [ inl r ↦ r | inr u ↦ u ]
+apart a k e = k
+
+no_write_fault : (a : Answer) → IsEnd a → status_of_answer a ≡ statuses.WriteFault → ⊥
+no_write_fault (answers.Hit blob) k e = cc
+no_write_fault answers.Miss k e = cc
+no_write_fault answers.Stored k e = cc
+no_write_fault answers.Kept k e = cc
+no_write_fault answers.FilesFault k e = cc
+no_write_fault answers.NoMemory k e = cc
+no_write_fault a k e = absurd k
+
+fault_back : (a : Answer) → IsEnd a → status_of_answer a ≡ statuses.FilesFault → a ≡ answers.FilesFault
 fault_back (answers.Hit blob) k e = absurd cc
 fault_back answers.Miss k e = absurd cc
+fault_back answers.Stored k e = absurd cc
+fault_back answers.Kept k e = absurd cc
 fault_back answers.FilesFault k e = refl
 fault_back answers.NoMemory k e = absurd cc
 fault_back a k e = absurd k
 
-module _ (request : Request) (a : Answer) (kind : IsLookupAnswer a) (status : Status) (old new : Option (List ℕ)) (before now : ℕ) (p : IsPrinted request a status old new before now) where
-  pub no_usage : status ≡ Usage → ⊥
-  no_usage e = elim p [ inl whole ↦ usage_apart a kind (sym whole.0 ∙ e) | inr cut ↦ let clash : WriteFault ≡ Usage = sym cut.0 ∙ e in cc ]
+pub printed_later : (request : Request) (a : Answer) (status : Status) (old new : Option (List ℕ)) (before now : ℕ) → IsPrinted request a status old new before now → before ≤ now
+printed_later request a status old new before now p = elim p [ inl whole ↦ whole.1.later | inr cut ↦ cut.1.later ]
 
-  pub no_bad_key : status ≡ BadKey → ⊥
-  no_bad_key e = elim p [ inl whole ↦ bad_key_apart a kind (sym whole.0 ∙ e) | inr cut ↦ let clash : WriteFault ≡ BadKey = sym cut.0 ∙ e in cc ]
+-- of what is printed
+module _ (request : Request) (a : Answer) (ends : IsEnd a) (status : Status) (old new : Option (List ℕ)) (before now : ℕ) (p : IsPrinted request a status old new before now) where
+  pub never_refused : IsRefused status ⊎ IsUnread status → ⊥
+  never_refused e = elim p [
+    | inl whole ↦ apart a ends (subst (λ (s : Status). IsRefused s ⊎ IsUnread s) whole.0 e)
+    | inr cut ↦
+        let none : IsRefused statuses.WriteFault ⊎ IsUnread statuses.WriteFault = subst (λ (s : Status). IsRefused s ⊎ IsUnread s) cut.0 e in
+        elim none [ inl r ↦ r | inr u ↦ u ]
+  ]
 
-  pub from_files : status ≡ FilesFault → a ≡ answers.FilesFault
-  from_files e = elim p [ inl whole ↦ fault_back a kind (sym whole.0 ∙ e) | inr cut ↦ let clash : WriteFault ≡ FilesFault = sym cut.0 ∙ e in absurd cc ]
+  pub from_files : status ≡ statuses.FilesFault → a ≡ answers.FilesFault
+  from_files e = elim p [ inl whole ↦ fault_back a ends (sym whole.0 ∙ e) | inr cut ↦ let clash : statuses.WriteFault ≡ statuses.FilesFault = sym cut.0 ∙ e in absurd cc ]
 
-  pub from_sink : status ≡ WriteFault → Rose before now
-  from_sink e = elim p [ inl whole ↦ absurd (write_fault_apart a kind (sym whole.0 ∙ e)) | inr cut ↦ cut.1.rose ]
+  pub from_sink : status ≡ statuses.WriteFault → Rose before now
+  from_sink e = elim p [ inl whole ↦ absurd (no_write_fault a ends (sym whole.0 ∙ e)) | inr cut ↦ cut.1.rose ]
+
+-- a source that gave no blob doesn't say that the words are refused
+pub no_words : (r : ReadRefusal) → IsRefused (status_of_refusal r) → ⊥
+no_words refusals.ReadFault e = e
+no_words (refusals.TooLarge count) e = e
+no_words refusals.NoMemory e = e

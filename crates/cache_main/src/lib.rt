@@ -3,8 +3,12 @@
 
 mod plan;
 mod printing;
+mod reading;
+mod request;
+mod round_trip;
 mod top;
 mod words;
 
 pub use plan::plan_of;
+pub use round_trip::{RoundTrip, put_then_get};
 pub use top::run;

@@ -1,8 +1,7 @@
 ghost use Rattle.std.specs.Prelude.{◌≡◌, ◌⊎◌, ◌∷◌, ◌↔◌, [], IfOk, IfErr, Err, None, map, string_bytes};
-ghost use Rattle.cache_main.specs.Top.{HasNoReading};
-ghost use Rattle.cache_main.specs.Words.{HasRoot};
+ghost use Rattle.cache_main.specs.Words.{HasNoReading, HasRoot};
 
-use crate::words::read_lookup;
+use crate::words::read_ask;
 use cache_types::{NoMemory, Text, TextList};
 use path_names::Paths;
 use report_text::Status;
@@ -27,7 +26,7 @@ pub fn plan_of(alloc: Global, words: &[String], _vars: &[(String, String)]) -> R
     ensures usage { (result ≡ Err Status.Usage) ↔ HasNoReading (map string_bytes words.now) }
     ensures refused { IfErr result (λ status. (status ≡ Status.Usage) ⊎ (status ≡ Status.NoMemory)) }
 {
-    let Some(found) = read_lookup(words) else {
+    let Some(found) = read_ask(words) else {
         return Err(Status::Usage);
     };
     match one_root(alloc, found.root) {

@@ -1,15 +1,37 @@
 ghost use Rattle.std.specs.Prelude.{◌≡◌, ◌≢◌, ◌++◌, ◌∷◌, ◌↔◌, [], get_or, map, string_bytes, MatchOption, IsTrue};
-ghost use Rattle.cache_main.specs.Words.{IsDriverWord, IsFit, lookup_of, Finds};
+ghost use Rattle.cache_main.specs.Words.{IsDriverWord, IsFit, word_of, ask_of, Finds};
+ghost use Rattle.cache_main.specs.declared.words.Command.{Command};
 
 use cache_types::is_driver_text;
 
-/// What the words of a lookup give: the driver, the root folder and the key, as texts.
+/// What is asked for.
+#[derive(Clone, Copy, Debug, PartialEq, Eq)]
+pub enum Command {
+    /// To look a key up.
+    Get,
+    /// To put a blob under a key.
+    Put,
+}
+
+/// What the words give: the command, and the driver, the root folder and the key, as texts.
 #[derive(Clone, Copy, Debug)]
-pub struct LookupWords<'a> {
+pub struct AskWords<'a> {
+    pub command: Command,
     pub id: &'a str,
     pub gpu: &'a str,
     pub root: &'a str,
     pub key: &'a str,
+}
+
+/// The command that a word is.
+fn command_of(word: &str) -> Option<Command>
+    ensures { MatchOption result ((command : Command) → word.now ≢ word_of command) (λ command. word.now ≡ word_of command) }
+{
+    match word {
+        "get" => Some(Command::Get),
+        "put" => Some(Command::Put),
+        _ => None,
+    }
 }
 
 /// What stands after this beginning of a word.
@@ -40,9 +62,9 @@ fn is_no_option(key: &str) -> bool
     !key.starts_with('-')
 }
 
-/// Whether texts can be the values of a lookup.
-fn is_fit(found: &LookupWords) -> bool
-    ensures { IsTrue result ↔ IsFit (lookup_of found.now) }
+/// Whether texts can be the values that are asked for.
+fn is_fit(found: &AskWords) -> bool
+    ensures { IsTrue result ↔ IsFit (ask_of found.now) }
 {
     is_driver_word(found.id)
         && is_driver_word(found.gpu)
@@ -50,17 +72,19 @@ fn is_fit(found: &LookupWords) -> bool
         && is_no_option(found.key)
 }
 
-/// The lookup of a driver that no words name.
-fn read_plain<'a>(get: &str, layout: &str, root: &'a str, key: &'a str) -> Option<LookupWords<'a>>
-    ensures { Finds (get.now ∷ layout.now ∷ root.now ∷ key.now ∷ []) result }
+/// What is asked for with a driver that no words name.
+fn read_plain<'a>(command: &str, layout: &str, root: &'a str, key: &'a str) -> Option<AskWords<'a>>
+    ensures { Finds (command.now ∷ layout.now ∷ root.now ∷ key.now ∷ []) result }
 {
-    if !is_word(get, "get") || !is_word(layout, "--layout=folder") {
+    let command = command_of(command)?;
+    if !is_word(layout, "--layout=folder") {
         return None;
     }
     let Some(root) = after("--root=", root) else {
         return None;
     };
-    let found = LookupWords {
+    let found = AskWords {
+        command,
         id: "mesa",
         gpu: "generic",
         root,
@@ -69,18 +93,19 @@ fn read_plain<'a>(get: &str, layout: &str, root: &'a str, key: &'a str) -> Optio
     if is_fit(&found) { Some(found) } else { None }
 }
 
-/// The lookup of a driver that the words name.
+/// What is asked for with a driver that the words name.
 fn read_for_driver<'a>(
-    get: &str,
+    command: &str,
     id: &'a str,
     gpu: &'a str,
     layout: &str,
     root: &'a str,
     key: &'a str,
-) -> Option<LookupWords<'a>>
-    ensures { Finds (get.now ∷ id.now ∷ gpu.now ∷ layout.now ∷ root.now ∷ key.now ∷ []) result }
+) -> Option<AskWords<'a>>
+    ensures { Finds (command.now ∷ id.now ∷ gpu.now ∷ layout.now ∷ root.now ∷ key.now ∷ []) result }
 {
-    if !is_word(get, "get") || !is_word(layout, "--layout=folder") {
+    let command = command_of(command)?;
+    if !is_word(layout, "--layout=folder") {
         return None;
     }
     let Some(id) = after("--id=", id) else {
@@ -92,19 +117,28 @@ fn read_for_driver<'a>(
     let Some(root) = after("--root=", root) else {
         return None;
     };
-    let found = LookupWords { id, gpu, root, key };
+    let found = AskWords {
+        command,
+        id,
+        gpu,
+        root,
+        key,
+    };
     if is_fit(&found) { Some(found) } else { None }
 }
 
-/// The lookup that the words ask for: `get [--id=I --gpu=G] --layout=folder --root=R KEY`, in this order.
+/// What the words ask for: `get` or `put`, and then `[--id=I --gpu=G] --layout=folder --root=R KEY`, in this
+/// order.
 ///
-/// `None` exactly where they ask for none. Takes no memory.
-pub fn read_lookup(words: &[String]) -> Option<LookupWords<'_>>
+/// `None` exactly where they ask for nothing. Takes no memory.
+pub fn read_ask(words: &[String]) -> Option<AskWords<'_>>
     ensures { Finds (map string_bytes words.now) result }
 {
     match words {
-        [get, layout, root, key] => read_plain(get, layout, root, key),
-        [get, id, gpu, layout, root, key] => read_for_driver(get, id, gpu, layout, root, key),
+        [command, layout, root, key] => read_plain(command, layout, root, key),
+        [command, id, gpu, layout, root, key] => {
+            read_for_driver(command, id, gpu, layout, root, key)
+        }
         _ => None,
     }
 }

@@ -1,0 +1,92 @@
+ghost use Rattle.std.specs.Prelude.{◌≡◌, ◌≤◌, ◌<◌, ◌+◌, take, drop, OnOk, vec_len};
+ghost use Rattle.files_api.specs.Streams.{IsRead, HasFault};
+ghost use Rattle.cache_main.specs.Reading.{ReadsToEnd, TakesAtMost};
+
+use cache_types::{Bytes, MAX_BLOB, NoMemory};
+use files_api::{Source, Took};
+use std::alloc::Global;
+
+/// Why a source gave no blob.
+#[derive(Clone, Copy, Debug, PartialEq, Eq)]
+pub enum ReadRefusal {
+    /// The source failed.
+    ReadFault,
+    /// So many bytes were read, which are too many.
+    TooLarge(u64),
+    /// Memory ran out.
+    NoMemory,
+}
+
+/// So much room is made first.
+const FIRST_ROOM: usize = 8_192;
+
+/// The next length of a buffer that is full: twice as long, and at last one byte longer than the longest
+/// blob, so that one more byte is seen.
+fn longer(len: usize) -> usize
+    requires { len ≤ MAX_BLOB }
+    ensures longer { len < result }
+    ensures most { result ≤ MAX_BLOB + 1 }
+{
+    if len < MAX_BLOB / 2 {
+        (2 * len).max(FIRST_ROOM)
+    } else {
+        MAX_BLOB + 1
+    }
+}
+
+/// Makes room behind what is filled, where there is none.
+fn make_room(buffer: &mut Vec<u8>, filled: usize) -> Result<(), NoMemory>
+    requires fits { filled ≤ MAX_BLOB }
+    requires within { filled ≤ vec_len buffer.old }
+    requires most { vec_len buffer.old ≤ MAX_BLOB + 1 }
+    ensures kept { take filled buffer.new.items ≡ take filled buffer.old.items }
+    ensures most { vec_len buffer.new ≤ MAX_BLOB + 1 }
+    ensures within { filled ≤ vec_len buffer.new }
+    ensures room { OnOk result (filled < vec_len buffer.new) }
+{
+    if filled == buffer.len() {
+        buffer.resize(longer(filled), 0)?;
+    }
+    Ok(())
+}
+
+/// Reads the next bytes of a source behind what is filled.
+fn read_piece<S: Source>(source: &mut S, buffer: &mut Vec<u8>, filled: usize) -> Took
+    requires { filled ≤ vec_len buffer.old }
+    ensures read { IsRead result (S.left source.old) (S.left source.new) (drop filled buffer.old.items) (drop filled buffer.new.items) }
+    ensures kept { take filled buffer.new.items ≡ take filled buffer.old.items }
+    ensures len { vec_len buffer.new ≡ vec_len buffer.old }
+    ensures cause { HasFault (S.faults source.old) (S.faults source.new) result }
+{
+    source.read(&mut buffer.as_mut_slice()[filled..])
+}
+
+/// Reads a source to its end, at most one byte more than the longest blob has. What is read stays where it
+/// was read to, in memory that grows with it.
+///
+/// # Errors
+///
+/// `TooLarge` exactly where the blob is longer than the longest; `ReadFault` only where the source failed;
+/// `NoMemory`.
+pub fn read_source<S: Source>(alloc: Global, source: &mut S) -> Result<Bytes, ReadRefusal>
+    ensures read { ReadsToEnd result (S.left source.old) (S.left source.new) (S.faults source.old) (S.faults source.new) }
+    ensures taken { TakesAtMost (MAX_BLOB + 1) (S.left source.old) (S.left source.new) }
+    ensures later { S.faults source.old ≤ S.faults source.new }
+{
+    let mut buffer = Vec::new(alloc);
+    let mut filled = 0;
+    'pieces: while filled <= MAX_BLOB {
+        let Ok(()) = make_room(&mut buffer, filled) else {
+            return Err(ReadRefusal::NoMemory);
+        };
+        match read_piece(source, &mut buffer, filled) {
+            Took::Some(0) => {
+                buffer.truncate(filled);
+                return Ok(Bytes::from_vec(buffer));
+            }
+            Took::Some(n) => filled += n as usize,
+            Took::Failed => return Err(ReadRefusal::ReadFault),
+        }
+    }
+    Err(ReadRefusal::TooLarge(filled as u64))
+}
