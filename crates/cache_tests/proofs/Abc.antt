@@ -27,36 +27,43 @@ use Rattle.memory_files.specs.Lone.{IsLone}
 use Rattle.op_union.specs.Requests.{Operates}
 use Rattle.report_text.specs.declared.status.Status.{Status}
 use Rattle.report_text.specs.declared.status.Status.TheVariants as statuses
-use Rattle.cache_main.specs.Printing.{IsWhole}
-use Rattle.cache_main.specs.Top.{HasNoReading, HasBadKey, Served, IsPrinted, request_of}
-use Rattle.cache_main.specs.Words.{Lookup, IsLookup, IsDriverWord}
+use Rattle.cache_main.specs.declared.words.Command.{Command}
+use Rattle.cache_main.specs.declared.words.Command.TheVariants.{Get, Put}
+use Rattle.cache_main.specs.Printing.{IsWhole, IsPrinted}
+use Rattle.cache_main.specs.Requests.{driver_of, request_of}
+use Rattle.cache_main.specs.Top.{HasBadKey, RefusesBlob, IsRefused, IsUnread, Served}
+use Rattle.cache_main.specs.Words.{Ask, IsAsk, IsDriverWord, HasNoReading, AsksFor, word_of}
+use Rattle.cache_main.proofs.Gets.{get_served}
 use Rattle.cache_main.proofs.Readings.{one_reading}
 use Rattle.cache_tests.specs.declared.premises.TheConstants.{KEY, ENTRY}
 use Rattle.cache_tests.specs.Found.{IsFound, words_of_abc, files_of_abc}
 
-abbrev abc : List ℕ
+abbrev pub abc : List ℕ
 abc = codes "abc"
 
-abbrev driver : DriverKeys
-driver = record { id = codes "d"; gpu = codes "g"; flags = 0 }
+abbrev pub asked : Command → Ask
+asked command = record { command = command; id = codes "d"; gpu = codes "g"; root = codes "store"; key = codes "a9993e364706816aba3e25717850c26c9cd0d89d" }
 
-abbrev asked : Lookup
-asked = record { id = codes "d"; gpu = codes "g"; root = codes "store"; key = codes "a9993e364706816aba3e25717850c26c9cd0d89d" }
+abbrev driver : DriverKeys
+driver = driver_of (asked Get)
+
+abbrev the_get : Request
+the_get = request_of (asked Get) KEY []
 
 letter : (x : List ℕ) (b : ℕ) → x ≡ b ∷ [] → 0 < b → IsDriverWord x
 letter x b is some = rw is ((omega arith, (λ e. omega arith, tt)), λ e. cc)
 
-is_asked : IsLookup words_of_abc asked
-is_asked = record { spelled = inr refl; fit = record { id = letter (codes "d") 100 refl (omega arith); gpu = letter (codes "g") 103 refl (omega arith); root = λ e. cc; key = λ e. omega arith } }
+pub are_asked : (command : Command) → IsAsk (words_of_abc (word_of command)) (asked command)
+are_asked command = record { spelled = inr refl; fit = record { id = letter (codes "d") 100 refl (omega arith); gpu = letter (codes "g") 103 refl (omega arith); root = λ e. cc; key = λ e. omega arith } }
 
 reads_abc : Reads driver ENTRY abc
 unfolding blob_of byte_step
 reads_abc = record { meta = Unknown; fits = tt; size = omega arith; whole = refl }
 
 -- its key's word is a key
-is_key : IsKeyText asked.key
+pub is_key : IsKeyText (asked Get).key
 unfolding hex_on_literals
-is_key = record { length_is = refl; digits = AllPass-from_list_all is_hex_digit asked.key refl }
+is_key = record { length_is = refl; digits = AllPass-from_list_all is_hex_digit (asked Get).key refl }
 
 abbrev before : History
 before = record { start = files_of_abc; log = [] }
@@ -70,7 +77,11 @@ unfolding name_code
 held_is blob held = held
 
 -- the digits spell the key
-spelled_key : (key : Key) → Spells asked.key key → key ≡ KEY
+pub key_spelled : Spells (asked Get).key KEY
+unfolding hex_on_literals
+key_spelled = refl
+
+spelled_key : (key : Key) → Spells (asked Get).key key → key ≡ KEY
 unfolding hex_on_literals
 spelled_key key s =
     let bytes : KEY.bytes ≡ key.bytes = cc in
@@ -81,7 +92,7 @@ alone : (me : Who) (new : Option History) (news : List LogItem) → new ≡ Some
 alone me new news is lone = subst (IsLone me) is lone
 
 -- no count rose from 0 to 0
-never_rose : Rose 0 0 → ⊥
+pub never_rose : Rose 0 0 → ⊥
 never_rose rose = omega arith
 
 -- ---- by the answer
@@ -90,36 +101,46 @@ module _ (me : Who) (status : Status) (new : Option History) (written : Option (
   whole_is : (bytes : List ℕ) → IsWhole bytes (Some []) written 0 failed → written ≡ Some bytes
   whole_is bytes w = w.added
 
-  hit : (blob : List ℕ) → blob ≡ abc → IsPrinted (request_of asked KEY) (answers.Hit blob) status (Some []) written 0 failed → IsFound status written
+  hit : (blob : List ℕ) → blob ≡ abc → IsPrinted the_get (answers.Hit blob) status (Some []) written 0 failed → IsFound status written
   hit blob is (inl p) = rw p.0 (whole_is blob p.1 ∙ ap (λ (b : List ℕ). Some b) is)
   hit blob is (inr p) = rw p.0 tt
 
-  lacking : IsPrinted (request_of asked KEY) answers.NoMemory status (Some []) written 0 failed → IsFound status written
+  lacking : IsPrinted the_get answers.NoMemory status (Some []) written 0 failed → IsFound status written
   lacking (inl p) = rw p.0 (whole_is [] p.1)
   lacking (inr p) = rw p.0 tt
 
-  by_answer : (answer : Answer) → LookedUp me (request_of asked KEY) 0 driver KEY (Some before) new 0 0 answer → FindsOrFails (FolderHolds (disk_of before) 0 driver KEY) answer
-      → IsPrinted (request_of asked KEY) answer status (Some []) written 0 failed → IsFound status written
+  by_answer : (answer : Answer) → LookedUp me the_get 0 driver KEY (Some before) new 0 0 answer → FindsOrFails (FolderHolds (disk_of before) 0 driver KEY) answer
+      → IsPrinted the_get answer status (Some []) written 0 failed → IsFound status written
   by_answer (answers.Hit blob) looked finds p = hit blob (reads_one driver ENTRY blob abc (held_is blob finds) reads_abc) p
   by_answer answers.Miss looked finds p = absurd (finds abc holds_abc)
   by_answer answers.FilesFault looked finds p = absurd (never_rose (looked.cause refl))
   by_answer answers.NoMemory looked finds p = lacking p
   by_answer answer looked finds p = absurd looked.kind
 
-  served_well : Served words_of_abc me status (Some before) new 0 0 (Some []) written 0 failed → IsLone me new → IsFound status written
-  served_well s lone =
-      let same : s.lookup ≡ asked = one_reading words_of_abc s.lookup asked s.reads is_asked in
-      let key : s.key ≡ KEY = spelled_key s.key (subst (λ (l : Lookup). Spells l.key s.key) same s.spells) in
-      let request : request_of s.lookup s.key ≡ request_of asked KEY = ap (λ (l : Lookup). request_of l s.key) same ∙ ap (λ (k : Key). request_of asked k) key in
-      let done = subst (λ (r : Request). Operates me r (Some before) new 0 0 s.answer) request s.done in
-      let printed = subst (λ (r : Request). IsPrinted r s.answer status (Some []) written 0 failed) request s.printed in
-      by_answer s.answer done (done.told.2.finds (alone me new done.told.0 done.told.1 lone)) printed
+  module _ (words : List (List ℕ)) (asks : IsAsk words (asked Get)) (old : Option History) (start : old ≡ Some before) (left left' out : Option (List ℕ)) (empty : out ≡ Some []) (faults : ℕ) (none : faults ≡ 0) where
+    served_well : Served words me status old new 0 0 left left' out written faults failed → IsLone me new → IsFound status written
+    served_well s lone =
+        let same : s.ask ≡ asked Get = one_reading words s.ask (asked Get) s.reads asks in
+        let key : s.key ≡ KEY = spelled_key s.key (subst (λ (a : Ask). Spells a.key s.key) same s.spells) in
+        let request : request_of s.ask s.key s.blob ≡ the_get = ap (λ (a : Ask). request_of a s.key s.blob) same ∙ ap (λ (k : Key). request_of (asked Get) k s.blob) key in
+        let asked_so = subst (λ (r : Request). Operates me r old new 0 0 s.answer) request s.done in
+        let done = subst (λ (h : Option History). Operates me the_get h new 0 0 s.answer) start asked_so in
+        let shown = subst (λ (r : Request). IsPrinted r s.answer status out written faults failed) request s.printed in
+        let on_nothing = subst (λ (w : Option (List ℕ)). IsPrinted the_get s.answer status w written faults failed) empty shown in
+        let printed = subst (λ (n : ℕ). IsPrinted the_get s.answer status (Some []) written n failed) none on_nothing in
+        by_answer s.answer done (done.told.2.finds (alone me new done.told.0 done.told.1 lone)) printed
 
-  -- the words are served, whatever else could be
-  pub abc_found : ((status ≡ statuses.Usage) → HasNoReading words_of_abc) → ((status ≡ statuses.BadKey) → HasBadKey words_of_abc)
-      → (status ≡ statuses.Usage) ⊎ (status ≡ statuses.BadKey) ⊎ Served words_of_abc me status (Some before) new 0 0 (Some []) written 0 failed → IsLone me new → IsFound status written
-  abc_found usage bad (inl e) lone = absurd (usage e asked is_asked)
-  abc_found usage bad (inr (inl e)) lone =
-      let b = bad e in
-      absurd (b.2 (subst (λ (l : Lookup). IsKeyText l.key) (one_reading words_of_abc asked b.0 is_asked b.1) is_key))
-  abc_found usage bad (inr (inr s)) lone = served_well s lone
+    -- without memory to begin, nothing is printed
+    by_case : {P Q : Type 0} → (Q → written ≡ Some []) → (status ≡ statuses.NoMemory) ⊎ Served words me status old new 0 0 left left' out written faults failed
+        → IsRefused status ⊎ IsUnread status ⊎ ((status ≡ statuses.NoMemory) × P × Q) ⊎ Served words me status old new 0 0 left left' out written faults failed → IsLone me new → IsFound status written
+    by_case same (inr s) all lone = served_well s lone
+    by_case same (inl e) (inl refused) lone = absurd (subst IsRefused e refused)
+    by_case same (inl e) (inr (inl unread)) lone = absurd (subst IsUnread e unread)
+    by_case same (inl e) (inr (inr (inl unbegun))) lone = rw unbegun.0 (same unbegun.2)
+    by_case same (inl e) (inr (inr (inr s))) lone = served_well s lone
+
+    -- the words are served, whatever else could be
+    pub abc_found : {R P Q : Type 0} → ((status ≡ statuses.Usage) → HasNoReading words) → ((status ≡ statuses.BadKey) → HasBadKey words)
+        → ((status ≡ statuses.ReadFault) → AsksFor Put words × R) → ((count : ℕ) → status ≡ statuses.TooLarge count → RefusesBlob words count left left') → (Q → written ≡ Some [])
+        → IsRefused status ⊎ IsUnread status ⊎ ((status ≡ statuses.NoMemory) × P × Q) ⊎ Served words me status old new 0 0 left left' out written faults failed → IsLone me new → IsFound status written
+    abc_found usage bad fault large same all lone = by_case same (get_served words (asked Get) asks refl is_key status left left' usage bad fault large all) all lone

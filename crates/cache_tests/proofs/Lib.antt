@@ -1,2 +1,3 @@
 pub mod Abc
+pub mod Again
 pub mod TwoSeats

@@ -22,17 +22,18 @@ const ENTRY: [u8; 29] = [
     97, 98, 99,
 ];
 
-const ME: Who = Who {
+/// The one seat.
+pub const ME: Who = Who {
     process: 0,
     seat: 0,
 };
 
-/// The words that ask for it.
-fn words(alloc: Global) -> Result<Vec<String>, NoMemory>
-    ensures { IfOk result (λ words. map string_bytes words.items ≡ words_of_abc) }
+/// The words of a command under its key.
+pub fn words(alloc: Global, command: &str) -> Result<Vec<String>, NoMemory>
+    ensures { IfOk result (λ words. map string_bytes words.items ≡ words_of_abc command.now) }
 {
     let texts = [
-        String::from_str(alloc, "get")?,
+        String::from_str(alloc, command)?,
         String::from_str(alloc, "--id=d")?,
         String::from_str(alloc, "--gpu=g")?,
         String::from_str(alloc, "--layout=folder")?,
@@ -57,7 +58,7 @@ fn disk(alloc: Global) -> Result<Vec<(Name, Bytes)>, NoMemory>
 pub fn abc_is_found(alloc: Global) -> Result<(Status, MemSink), NoMemory>
     ensures { IfOk result (λ ended. IsFound ended.0 (⟦<MemSink as Sink>⟧.written ended.1)) }
 {
-    let words = words(alloc)?;
+    let words = words(alloc, "get")?;
     let mut files = LoneFiles::on_disk(alloc, ME, disk(alloc)?)?;
     let mut source = MemSource::new(Bytes::new(alloc), Vec::new(alloc));
     let mut out = MemSink::new(alloc, Vec::new(alloc));

@@ -1,8 +1,11 @@
 use crate::entries::{ABC, EMPTY, K1, K1_TEXT, K2, K2_TEXT, ME};
+use crate::round_trip::abc_is_put_and_found;
 use crate::turns::{hit, miss, put};
+use cache_main::RoundTrip;
 use cache_types::{Driver, Name};
 use file_log::LogItem;
 use memory_files::MemFiles;
+use report_text::Status;
 use std::test::Fail;
 
 /// The blob `xyz` of driver `e`. Its CRC-32 is 0xeb8eba67.
@@ -54,5 +57,17 @@ fn another_drivers_entry_goes(rt: HostRuntime) -> Result<(), Fail> {
         }
     }
     assert_eq!(rt; told, 1);
+    Ok(())
+}
+
+#[test]
+fn the_premises_of_a_round_trip_can_be_met(rt: HostRuntime) -> Result<(), Fail> {
+    let (ended, out) = abc_is_put_and_found(rt.alloc())?;
+    let well = RoundTrip {
+        put: Status::Ok,
+        get: Status::Ok,
+    };
+    assert_eq!(rt; ended, well);
+    assert_eq!(rt; out.bytes(), b"stored\nabc".as_slice());
     Ok(())
 }
