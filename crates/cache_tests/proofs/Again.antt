@@ -20,9 +20,8 @@ abc_pair put get p g = record {
   puts = subst (λ (words : List (List ℕ)). IsAsk words (asked Put)) (sym p) (are_asked Put);
   gets = subst (λ (words : List (List ℕ)). IsAsk words (asked Get)) (sym g) (are_asked Get);
   key = KEY;
-  is_key = is_key;
-  spelled = key_spelled;
-  respelled = key_spelled;
+  put_key = (is_key, key_spelled);
+  get_key = (is_key, key_spelled);
 }
 
 module _ (history : Option History) (left' written : Option (List ℕ)) (failed : ℕ) where
