@@ -13,6 +13,8 @@ mod entries;
 #[cfg(test)]
 mod faults;
 #[cfg(test)]
+mod items;
+#[cfg(test)]
 mod long_entries;
 #[cfg(test)]
 mod lookups;
