@@ -34,7 +34,10 @@ fn each_call_of_a_put_that_fails_is_told(rt: HostRuntime) -> Result<(), Fail> {
                 Status::FilesFault
             };
             let turn = put("--id=d", K1_TEXT, b"abc", b"stored\n");
-            assert!(rt; turn.fails(wanted).take(alloc, &mut files)?, "call {call}, memory {memory}");
+            assert!(rt;
+                turn.fails(wanted).take(alloc, &mut files)?,
+                "call {call}, memory {memory}"
+            );
             files.fail_at(Vec::new(alloc));
             assert!(rt; miss("--id=d", K1_TEXT).take(alloc, &mut files)?);
             assert!(rt; turn.take(alloc, &mut files)?);

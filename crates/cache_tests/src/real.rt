@@ -8,11 +8,7 @@ use std::fs;
 use std::test::Fail;
 
 /// The status of a call of the program over real files, with this input, and what it printed.
-fn call(
-    rt: &HostRuntime,
-    words: &[String],
-    input: &[u8],
-) -> Result<(Status, MemSink), NoMemory> {
+fn call(rt: &HostRuntime, words: &[String], input: &[u8]) -> Result<(Status, MemSink), NoMemory> {
     let alloc = rt.alloc();
     let Ok(paths) = plan_of(alloc, words, &[]) else {
         return Err(NoMemory);

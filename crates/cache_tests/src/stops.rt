@@ -19,17 +19,23 @@ fn a_put_that_was_stopped_does_no_harm(rt: HostRuntime) -> Result<(), Fail> {
     let turn = put("--id=d", K1_TEXT, b"abc", b"stored\n");
     assert!(rt; turn.take(alloc, &mut files)?);
     let whole = files.world().log_len();
-    let mut hits = 0;
+    let mut hits = 0u64;
     for n in 0..=whole {
         assert!(rt; files.may_follow(n, NEXT)?);
         let mut left = files.stopped_after(n, NEXT)?;
         if miss("--id=d", K1_TEXT).take(alloc, &mut left)? {
             assert!(rt; turn.take(alloc, &mut left)?, "stopped after {n}");
         } else {
-            hits += 1;
-            assert!(rt; put("--id=d", K1_TEXT, b"abc", b"kept\n").take(alloc, &mut left)?, "stopped after {n}");
+            hits = hits.saturating_add(1);
+            assert!(rt;
+                put("--id=d", K1_TEXT, b"abc", b"kept\n").take(alloc, &mut left)?,
+                "stopped after {n}"
+            );
         }
-        assert!(rt; hit("--id=d", K1_TEXT, b"abc").take(alloc, &mut left)?, "stopped after {n}");
+        assert!(rt;
+            hit("--id=d", K1_TEXT, b"abc").take(alloc, &mut left)?,
+            "stopped after {n}"
+        );
     }
     // From the renaming on: after it, after the closing, and after the End.
     assert_eq!(rt; hits, 3);
