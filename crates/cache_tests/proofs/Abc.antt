@@ -131,16 +131,12 @@ module _ (me : Who) (status : Status) (new : Option History) (written : Option (
         by_answer s.answer done (done.told.2.finds (alone me new done.told.0 done.told.1 lone)) printed
 
     -- without memory to begin, nothing is printed
-    by_case : {P Q : Type 0} → (Q → written ≡ Some []) → (status ≡ statuses.NoMemory) ⊎ Served words me status old new 0 0 left left' out written faults failed
-        → IsRefused status ⊎ IsUnread status ⊎ ((status ≡ statuses.NoMemory) × P × Q) ⊎ Served words me status old new 0 0 left left' out written faults failed → IsLone me new → IsFound status written
-    by_case same (inr s) all lone = served_well s lone
-    by_case same (inl e) (inl refused) lone = absurd (subst IsRefused e refused)
-    by_case same (inl e) (inr (inl unread)) lone = absurd (subst IsUnread e unread)
-    by_case same (inl e) (inr (inr (inl unbegun))) lone = rw unbegun.0 (same unbegun.2)
-    by_case same (inl e) (inr (inr (inr s))) lone = served_well s lone
+    by_case : {P Q : Type 0} → (Q → written ≡ Some []) → ((status ≡ statuses.NoMemory) × P × Q) ⊎ Served words me status old new 0 0 left left' out written faults failed → IsLone me new → IsFound status written
+    by_case same (inl unbegun) lone = rw unbegun.0 (same unbegun.2)
+    by_case same (inr s) lone = served_well s lone
 
     -- the words are served, whatever else could be
     pub abc_found : {R P Q : Type 0} → ((status ≡ statuses.Usage) → HasNoReading words) → ((status ≡ statuses.BadKey) → HasBadKey words)
         → ((status ≡ statuses.ReadFault) → AsksFor Put words × R) → ((count : ℕ) → status ≡ statuses.TooLarge count → RefusesBlob words count left left') → (Q → written ≡ Some [])
         → IsRefused status ⊎ IsUnread status ⊎ ((status ≡ statuses.NoMemory) × P × Q) ⊎ Served words me status old new 0 0 left left' out written faults failed → IsLone me new → IsFound status written
-    abc_found usage bad fault large same all lone = by_case same (get_served words (asked Get) asks refl is_key status left left' usage bad fault large all) all lone
+    abc_found usage bad fault large same all lone = by_case same (get_served words (asked Get) asks refl is_key status left left' usage bad fault large all) lone

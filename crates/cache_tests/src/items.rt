@@ -18,8 +18,11 @@ fn keys_stand_in_an_item(rt: HostRuntime) -> Result<(), Fail> {
     let driver = Driver::new(alloc, "d", "g", 0)?;
     let item = write_item(alloc, &driver, &keys(alloc, 1)?, b"abc")?;
     assert_eq!(rt; item.len(), 53);
-    assert_eq!(rt; &item.as_slice()[14..22], &[1, 0, 0, 0, 1, 0, 0, 0]);
-    assert_eq!(rt; &item.as_slice()[22..42], &K2.bytes);
+    assert_eq!(rt;
+        &item.as_slice()[14..22],
+        [1, 0, 0, 0, 1, 0, 0, 0].as_slice()
+    );
+    assert_eq!(rt; &item.as_slice()[22..42], K2.bytes.as_slice());
 
     let item = write_item(alloc, &driver, &keys(alloc, 64)?, b"abc")?;
     let read = read_item(alloc, &driver, item.as_slice())?;
