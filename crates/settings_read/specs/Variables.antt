@@ -6,30 +6,39 @@ use Rattle.std.specs.Option.{option_map_or}
 
 -- ---- their names
 
+-- true turns the cache off
 abbrev pub disable : List ℕ
 disable = codes "MESA_SHADER_CACHE_DISABLE"
 
+-- true asks for a file for each entry
 abbrev pub multi_file : List ℕ
 multi_file = codes "MESA_DISK_CACHE_MULTI_FILE"
 
+-- true asks for a Foz database
 abbrev pub single_file : List ℕ
 single_file = codes "MESA_DISK_CACHE_SINGLE_FILE"
 
+-- the folder that the cache's own stands in
 abbrev pub cache_dir : List ℕ
 cache_dir = codes "MESA_SHADER_CACHE_DIR"
 
+-- the same, where the first isn't set
 abbrev pub xdg_cache_home : List ℕ
 xdg_cache_home = codes "XDG_CACHE_HOME"
 
+-- the user's folder, where neither is
 abbrev pub home : List ℕ
 home = codes "HOME"
 
+-- how large the cache may grow
 abbrev pub max_size : List ℕ
 max_size = codes "MESA_SHADER_CACHE_MAX_SIZE"
 
+-- names of read-only databases, between commas
 abbrev pub read_only : List ℕ
 read_only = codes "MESA_DISK_CACHE_READ_ONLY_FOZ_DBS"
 
+-- the path of a file that names more
 abbrev pub dynamic_list : List ℕ
 dynamic_list = codes "MESA_DISK_CACHE_READ_ONLY_FOZ_DBS_DYNAMIC_LIST"
 

@@ -128,6 +128,24 @@ fn read(
 }
 
 #[test]
+fn variables_that_are_read(rt: HostRuntime) {
+    for name in [
+        "MESA_SHADER_CACHE_DISABLE",
+        "MESA_DISK_CACHE_MULTI_FILE",
+        "MESA_DISK_CACHE_SINGLE_FILE",
+        "MESA_DISK_CACHE_DATABASE",
+        "MESA_SHADER_CACHE_DIR",
+        "XDG_CACHE_HOME",
+        "HOME",
+        "MESA_SHADER_CACHE_MAX_SIZE",
+        "MESA_DISK_CACHE_READ_ONLY_FOZ_DBS",
+        "MESA_DISK_CACHE_READ_ONLY_FOZ_DBS_DYNAMIC_LIST",
+    ] {
+        assert!(rt; VARIABLES.iter().any(|known| *known == name), "{name}");
+    }
+}
+
+#[test]
 fn home_alone(rt: HostRuntime) -> Result<(), Fail> {
     let given = read(rt.alloc(), &[("HOME", "/home/u")])??;
     assert_eq!(rt; given.root.as_str(), "/home/u/.cache/mesa_shader_cache_db");
