@@ -8,10 +8,11 @@ use Rattle.settings_read.specs.Places.{layout_of, base_of, root_in}
 use Rattle.settings_read.specs.Sizes.{size_of}
 use Rattle.settings_read.specs.Names.{names_of_variable}
 
--- the cache is turned off, or on
+-- the cache is turned off
 abbrev pub IsOff : Environment → Type 0
 IsOff vars = is_true vars disable ≡ true
 
+-- it isn't
 abbrev pub IsOn : Environment → Type 0
 IsOn vars = is_true vars disable ≡ false
 
@@ -35,7 +36,7 @@ pub record HasTooMany (vars : Environment) (n : ℕ) : Type 0 where
 abbrev pub Refuses : {T : Type 0} → Result T SettingsRefusal → SettingsRefusal → Type 0
 Refuses result refusal = (result ≡ Err refusal) ⊎ (result ≡ Err NoMemory)
 
--- the settings are those that the variables give, and nothing is refused
+-- the cache is on and has a root, at most 8 names are given, and each setting is what the variables say
 pub record AreGiven (vars : Environment) (settings : CacheSettings) : Type 0 where
   pub on : IsOn vars
   pub base : List ℕ

@@ -12,10 +12,11 @@ units = (codes "k", 1024) ∷ (codes "m", 1024 ^ 2) ∷ (codes "g", 1024 ^ 3) �
 abbrev pub unit_of : List ℕ → Option ℕ
 unit_of letter = option_map (λ unit. unit.1) (find (λ unit. bytes_eq unit.0 (map to_ascii_lowercase letter)) units)
 
--- the digits at the front of a text, and what stands behind them
+-- the digits at the front of a text
 abbrev pub digits_in : List ℕ → List ℕ
 digits_in text = take_while is_ascii_digit text
 
+-- what stands behind them
 abbrev pub behind_digits : List ℕ → List ℕ
 behind_digits text = drop (prefix_len is_ascii_digit text) text
 
@@ -23,10 +24,10 @@ behind_digits text = drop (prefix_len is_ascii_digit text) text
 abbrev pub spelled_size : List ℕ → Option ℕ
 spelled_size text = if length (digits_in text) == 0 then None else option_map (λ unit. digits_value 10 (digits_in text) * unit) (unit_of (behind_digits text))
 
--- none is as much as 1 GiB, and none is above 1 TiB
+-- a size of 0 counts as 1 GiB, and one above 1 TiB as 1 TiB
 abbrev pub bounded : ℕ → ℕ
 bounded size = if size == 0 then 1024 ^ 3 else min size (1024 ^ 4)
 
--- the size of a text: 1 GiB also where it spells none
+-- the size that a text gives; any other text counts as 0
 abbrev pub size_of : List ℕ → ℕ
 size_of text = bounded (unwrap_or (spelled_size text) 0)
