@@ -1,0 +1,5 @@
+mod AsciiNames
+mod Digits
+mod Pairs
+mod Repeats
+mod SeenNames

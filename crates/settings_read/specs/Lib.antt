@@ -1,0 +1,6 @@
+pub mod Variables
+pub mod Places
+pub mod Sizes
+pub mod Names
+pub mod Seen
+pub mod Settings

@@ -1,0 +1,16 @@
+//! What the variables of the environment say of the cache: whether it is on, where it lies and in which
+//! layout, how large it may grow, and which read-only databases are asked before it.
+#![tactic(auto)]
+
+mod cache_settings;
+mod names;
+mod places;
+mod size;
+#[cfg(test)]
+mod tests;
+mod variables;
+
+pub use cache_settings::{CacheSettings, SettingsRefusal, settings};
+pub use names::{MAX_LIST, MAX_READ_ONLY, names_of_list, names_of_variable};
+pub use size::size_of_text;
+pub use variables::VARIABLES;
