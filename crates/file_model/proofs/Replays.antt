@@ -2,12 +2,14 @@
 use Rattle.std.proofs.Common.{◌≡◌, ◌<◌, ℕ, zero, suc, ◌+◌, ◌-◌, List, [], ◌∷◌, ◌++◌, fold, length, get_or, take, drop, refl, sym, ap, subst, ◌∙◌, arith}
 use Rattle.std.proofs.lemmas.List.{append-nil, take_more, take-append-drop}
 use Rattle.std.proofs.lemmas.Grind.{flat_map-append}
+use Rattle.std.proofs.lemmas.List.Sums.{fold-append}
+use Rattle.file_log.proofs.Logs.{All-append}
 use Rattle.file_log.specs.declared.item.LogItem.{LogItem}
-use Rattle.file_log.specs.Legal.{Legal}
+use Rattle.file_log.specs.Legal.{Legal, IsLegal}
 use Rattle.file_log.specs.State.{State, first, after, state_of}
-use Rattle.file_model.specs.declared.piece.Piece.{Piece}
-use Rattle.file_model.specs.Held.{Held, told}
-use Rattle.file_model.specs.Pieces.{items_of_piece, items_of_pieces}
+use Rattle.world_tables.specs.declared.piece.Piece.{Piece}
+use Rattle.file_model.specs.Held.{Held, told, with_log}
+use Rattle.world_tables.specs.Pieces.{items_of_piece, items_of_pieces}
 
 abbrev nothing : List LogItem
 nothing = []
@@ -77,3 +79,35 @@ pieces-whole pieces i piece less is =
     ap items_of_pieces (sym (take-append-drop (i + 1) pieces))
     ∙ flat_map-append items_of_piece (take (i + 1) pieces) (drop (i + 1) pieces)
     ∙ ap (λ (log : List LogItem). log ++ items_of_pieces (drop (i + 1) pieces)) (pieces-more pieces i piece less is)
+
+-- ---- each item of a log
+
+-- the item at a place can come there
+pub legal_at : (s : State) (log : List LogItem) (i : ℕ) (item : LogItem) → Legal s log → i < length log → item ≡ get_or log i item → IsLegal (fold after s (take i log)) item
+legal_at s [] i item legal less is = absurd (omega (arith, less))
+legal_at s (x ∷ xs) zero item legal less is = subst (IsLegal s) (sym is) legal.0
+legal_at s (x ∷ xs) (suc i) item legal less is = legal_at (after s x) xs i item legal.1 (omega (arith, less)) is
+
+-- ---- a world that has done again the first items of a log, and then does the next
+
+pub next_done : (held : Held) (log : List LogItem) (i : ℕ) (world new : Held) (item copy : LogItem) → i < length log → item ≡ get_or log i item
+    → world ≡ with_log held (take i log) → new ≡ told world (copy ∷ []) → copy ≡ item → new ≡ with_log held (take (i + 1) log)
+next_done held log i world new item copy less is redone more same =
+    more
+    ∙ ap (λ (h : Held). told h (copy ∷ [])) redone
+    ∙ ap (λ (x : LogItem). with_log held (take i log ++ x ∷ [])) (same ∙ is)
+    ∙ ap (with_log held) (sym (take_more log i item less))
+
+pub next_state : (world new : Held) (item copy : LogItem) → new ≡ told world (copy ∷ []) → copy ≡ item → state_of new.past ≡ after (state_of world.past) item
+next_state world new item copy more same =
+    ap (λ (h : Held). state_of h.past) more
+    ∙ fold-append after (first world.past.start) world.past.log (copy ∷ [])
+    ∙ ap (after (state_of world.past)) same
+
+pub next_legal : (held : Held) (log : List LogItem) (i : ℕ) (world : Held) (item : LogItem) → i < length log → item ≡ get_or log i item → world ≡ with_log held (take i log)
+    → Legal (first held.past.start) (take i log) → IsLegal (state_of world.past) item → Legal (first held.past.start) (take (i + 1) log)
+next_legal held log i world item less is redone legal here =
+    let s = first held.past.start in
+    let now : IsLegal (fold after s (take i log)) item = subst (λ (h : Held). IsLegal (state_of h.past) item) redone here in
+    let there : IsLegal (fold after s (take i log)) (get_or log i item) = subst (λ (x : LogItem). IsLegal (fold after s (take i log)) x) is now in
+    subst (Legal s) (sym (take_more log i item less)) (All-append after IsLegal s (take i log) (get_or log i item ∷ []) legal (there, tt))

@@ -17,6 +17,10 @@ told held news = record held { past = with_items held.past news }
 abbrev pub first_of : ℕ → Held → Held
 first_of n held = record held { past = record { start = held.past.start; log = take n held.past.log } }
 
+-- with these items in place of its own
+abbrev pub with_log : Held → List LogItem → Held
+with_log held log = record held { past = record { start = held.past.start; log = log } }
+
 -- an item that is no seat's and changes no file, or tells of an entry that goes
 abbrev pub IsPlain : LogItem → Type 0
 IsPlain (items.Queued process ticket request) = Unit {0}

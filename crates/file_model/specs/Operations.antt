@@ -3,8 +3,8 @@ use Rattle.std.specs.Prelude.{Bool, true, false, not, List, Option, Some, None}
 use Rattle.cache_types.specs.declared.seat.Who.{Who}
 use Rattle.cache_types.specs.Seats.{same_seat}
 use Rattle.file_log.specs.Seat.{Course}
-use Rattle.file_model.specs.declared.parts.OpenOperation.{OpenOperation}
-use Rattle.file_model.specs.Find.{find_by}
+use Rattle.file_model.specs.declared.operations.OpenOperation.{OpenOperation}
+use Rattle.world_tables.specs.Find.{find_by}
 
 abbrev pub operation_of : List OpenOperation → Who → Option OpenOperation
 operation_of operations who = find_by (λ x. same_seat who x.who) (λ x. x) operations

@@ -2,19 +2,20 @@
 //! items, and the files are what that log leaves of the files that were there at first.
 #![tactic(auto)]
 
-mod book;
-mod file;
-mod find;
-mod listing;
+mod halted;
+mod jobs;
+mod legal;
 mod operations;
-mod parts;
-mod piece;
+mod queues;
 mod replay;
 mod seen;
 mod step;
-mod tables;
+#[cfg(test)]
+mod tests;
 mod world;
 
+pub use legal::first_illegal;
+pub use replay::disk_of;
 pub use seen::Seen;
 pub use step::{Fate, Progress};
 pub use world::World;

@@ -2,13 +2,19 @@ ghost use Rattle.std.specs.Prelude.{◌≡◌, ◌≤◌, ◌<◌, ◌+◌, ◌�
 ghost use Rattle.std.specs.Vec.{vec_len, vec_capacity};
 ghost use Rattle.cache_types.specs.Seats.{same_seat};
 ghost use Rattle.cache_types.specs.declared.seat.Who.{Who};
-ghost use Rattle.file_model.specs.declared.parts.OpenOperation.{OpenOperation};
+ghost use Rattle.file_model.specs.declared.operations.OpenOperation.{OpenOperation};
 ghost use Rattle.file_model.specs.Operations.{operation_of as the_operation, course_in, is_whole as whole};
 ghost use Rattle.file_model.specs.Room.{ends, ends_of};
 
-use crate::book::Book;
-use crate::parts::OpenOperation;
 use cache_types::{NoMemory, Who};
+use world_tables::Book;
+
+/// A seat's open operation, and whether one of its calls failed or was refused memory.
+#[derive(Clone, Copy, Debug, PartialEq, Eq)]
+pub struct OpenOperation {
+    pub who: Who,
+    pub hurt: bool,
+}
 
 /// A seat's open operation.
 pub fn operation_of(operations: &[OpenOperation], who: Who) -> Option<OpenOperation>

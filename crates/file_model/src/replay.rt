@@ -1,24 +1,43 @@
 ghost use Rattle.std.specs.Prelude.{◌≡◌, ◌≤◌, ◌∷◌, [], length, take, IfOk, OnOk};
 ghost use Rattle.file_log.specs.Legal.{IsLegal, Legal};
-ghost use Rattle.file_log.specs.State.{state_of};
-ghost use Rattle.file_model.specs.Held.{told, first_of};
-ghost use Rattle.file_model.specs.Pieces.{items_of_run, items_of_piece, items_grown};
+ghost use Rattle.file_log.specs.State.{first, state_of};
+ghost use Rattle.file_model.specs.Held.{told, first_of, with_log};
+ghost use Rattle.world_tables.specs.Pieces.{items_of_run, items_of_piece, items_grown};
 
-use crate::book::len_of_piece;
-use crate::piece::{Piece, Run};
 use crate::world::World;
 use cache_types::{Bytes, Name, NoMemory};
 use file_log::{LogItem, Note};
 use std::alloc::Global;
+use world_tables::{Piece, Run, len_of_piece};
+
+/// The world after these items from the files that another world had at first, with its clock as it is now.
+pub fn disk_of(start: &World, log: &[LogItem]) -> Result<World, NoMemory>
+    requires { Legal (first start.now.past.start) log.now }
+    ensures { IfOk result (λ world. world ≡ with_log start.now log.now) }
+{
+    let mut world = start.opening()?;
+    for item in log {
+        let told = item.copy(world.alloc())?;
+        world.replay(told)?;
+    }
+    Ok(world)
+}
 
 impl World {
+    /// The world before its first item, with the clock as it is now.
+    pub(crate) fn opening(&self) -> Result<World, NoMemory>
+        ensures { IfOk result (λ world. world ≡ with_log self.now []) }
+    {
+        let files = copy_files(self.alloc(), self.start())?;
+        World::at_first(self.alloc(), files, self.now())
+    }
+
     /// The world as it was after the first `n` items of its log, with the clock as it is now.
     pub fn first_items(&self, n: u64) -> Result<World, NoMemory>
         requires { n ≤ length self.now.past.log }
         ensures { IfOk result (λ world. world ≡ first_of n self.now) }
     {
-        let files = copy_files(self.alloc(), self.start())?;
-        let mut world = World::at_first(self.alloc(), files, self.now())?;
+        let mut world = self.opening()?;
         let (pieces, growing) = self.pieces();
         let mut left = n;
         for piece in pieces {
@@ -70,7 +89,7 @@ impl World {
     }
 
     /// Does again what an item tells.
-    fn replay(&mut self, item: LogItem) -> Result<(), NoMemory>
+    pub(crate) fn replay(&mut self, item: LogItem) -> Result<(), NoMemory>
         requires { IsLegal (state_of self.old.past) item }
         ensures { OnOk result (self.new ≡ told self.old (item ∷ [])) }
     {

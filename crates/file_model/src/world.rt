@@ -1,37 +1,28 @@
-ghost use Rattle.std.specs.Prelude.{◌≡◌, ◌≤◌, ◌<◌, ◌+◌, ◌-◌, ◌^◌, ◌∷◌, ◌++◌, [], ℕ, Bool, true, false, None, get_or, length, min, OnOk, OnErr, IfOk, IsOk, IsSome, is_some, if◌then◌else◌};
-ghost use Rattle.std.specs.Vec.{vec_len, vec_capacity};
-ghost use Rattle.cache_types.specs.Seats.{same_seat};
-ghost use Rattle.cache_types.specs.declared.seat.Who.{Who};
+ghost use Rattle.std.specs.Prelude.{◌≡◌, ◌<◌, ◌-◌, ◌^◌, ◌∷◌, ◌++◌, [], ℕ, Bool, true, false, None, get_or, length, min, OnOk, OnErr, IfOk, IsOk, is_some};
 ghost use Rattle.cache_types.specs.declared.name.Name.TheVariants.{Ro, RoIdx};
 ghost use Rattle.file_log.specs.declared.item.LogItem.TheVariants as items;
-ghost use Rattle.file_log.specs.Disk.{created, listed, file_of};
-ghost use Rattle.file_log.specs.Effect.{after_call};
+ghost use Rattle.file_log.specs.Disk.{file_of};
 ghost use Rattle.file_log.specs.Exchange.{Answers, NoteMayLack, byte_items, item_of_note};
 ghost use Rattle.file_log.specs.Fits.{TextFits};
-ghost use Rattle.file_log.specs.Legal.{Legal, IsLegal, IsOpen};
-ghost use Rattle.file_log.specs.Seat.{Course, IsFilled, SlotFits, IsTold, course_of};
+ghost use Rattle.file_log.specs.Legal.{Legal, IsLegal};
+ghost use Rattle.file_log.specs.Seat.{IsFilled, SlotFits, IsTold, course_of};
 ghost use Rattle.file_log.specs.State.{first, state_of, disk_of};
-ghost use Rattle.file_model.specs.Calls.{MakesOne, IsNoFailure, TellsClock, filled_of};
-ghost use Rattle.file_model.specs.Find.{Once};
+ghost use Rattle.file_model.specs.Calls.{MakesOne, IsNoFailure, filled_of};
+ghost use Rattle.world_tables.specs.Calls.{TellsClock};
 ghost use Rattle.file_model.specs.Held.{told, IsPlain};
-ghost use Rattle.file_model.specs.Operations.{course_in};
-ghost use Rattle.file_model.specs.Pieces.{items_of_pieces, items_grown};
-ghost use Rattle.file_model.specs.Room.{closes, closes_by as the_closes, ends};
+ghost use Rattle.world_tables.specs.Pieces.{items_of_pieces, items_grown};
+ghost use Rattle.world_tables.specs.Tables.{disk_at};
 ghost use Rattle.file_model.specs.Seeing.{seen_by};
 ghost use Rattle.file_model.specs.Starts.{NamesDiffer};
-ghost use Rattle.file_model.specs.Tables.{disk_at};
 
-use crate::book::Book;
-use crate::find::{file_in, is_among};
-use crate::operations::{begin_in_room, end_in_room, fail_in_room, operation_of};
-use crate::parts::OpenOperation;
-use crate::piece::{Piece, Run};
+use crate::halted::{halt, is_among};
+use crate::operations::{OpenOperation, begin_in_room, end_in_room, fail_in_room, operation_of};
 use crate::seen::Seen;
-use crate::tables::Tables;
 use cache_types::{Answer, Bytes, Driver, Key, Name, NoMemory, Request, Store, Text, Who};
 use file_log::{Call, LogItem, Note, Reply, request_known};
 use std::alloc::Global;
 use std::marker::Model;
+use world_tables::{Book, Piece, Run, Tables, answer_in_room, install_in_room, list_in_room};
 
 /// Files in memory, all that was done to them, and a clock. Contracts see the files that were there at
 /// first, the log, and the clock. A world keeps memory for what can't be refused: a Close of each filled
@@ -59,109 +50,12 @@ impl Model for World {
     ghost invariant = { AreKept };
 }
 
-/// Does what an answered call does, and takes the memory for its item and for the Close of what it
-/// opened. It does both or neither.
-fn answer_in_room(
-    book: &mut Book,
-    tables: &mut Tables,
-    alloc: Global,
-    who: Who,
-    call: &Call,
-    reply: &Reply,
-) -> Result<(), NoMemory>
-    requires { Once tables.old.locks.items }
-    ensures ok { OnOk result (disk_at tables.new ≡ after_call (disk_at tables.old) who call.now reply.now) }
-    ensures room { OnOk result (book.new ≡ record book.old { room = book.old.room + (1 + the_closes call.now reply.now) }) }
-    ensures err { OnErr result ((disk_at tables.new ≡ disk_at tables.old) × (book.new ≡ book.old)) }
-    ensures once { Once tables.new.locks.items }
-    ensures closes { closes tables.new.slots.items ≤ closes tables.old.slots.items + the_closes call.now reply.now }
-    ensures no_more { OnErr result (closes tables.new.slots.items ≤ closes tables.old.slots.items) }
-{
-    let more = 1 + closes_by(call, reply);
-    book.make_room(more)?;
-    match tables.answer(alloc, who, call, reply) {
-        Ok(()) => Ok(()),
-        Err(e) => {
-            book.give_room(more);
-            Err(e)
-        }
-    }
-}
-
-/// Brings a read-only database, and takes the memory for its item. It does both or neither.
-fn install_in_room(
-    book: &mut Book,
-    tables: &mut Tables,
-    alloc: Global,
-    root: u32,
-    name: &Text,
-    main: &Bytes,
-    index: &Bytes,
-) -> Result<(), NoMemory>
-    ensures ok { OnOk result (disk_at tables.new ≡ created (created (disk_at tables.old) (Ro root name.now) main.now) (RoIdx root name.now) index.now) }
-    ensures room { OnOk result (book.new ≡ record book.old { room = book.old.room + 1 }) }
-    ensures err { OnErr result ((disk_at tables.new ≡ disk_at tables.old) × (book.new ≡ book.old)) }
-    ensures locks { tables.new.locks ≡ tables.old.locks }
-    ensures slots { tables.new.slots ≡ tables.old.slots }
-{
-    book.make_room(1)?;
-    match tables.install(alloc, root, name, main, index) {
-        Ok(()) => Ok(()),
-        Err(e) => {
-            book.give_room(1);
-            Err(e)
-        }
-    }
-}
-
-/// Sets the list of read-only databases, and takes the memory for its item. It does both or neither.
-fn list_in_room(
-    book: &mut Book,
-    tables: &mut Tables,
-    alloc: Global,
-    text: &Option<Bytes>,
-) -> Result<(), NoMemory>
-    ensures ok { OnOk result (disk_at tables.new ≡ listed (disk_at tables.old) text.now) }
-    ensures room { OnOk result (book.new ≡ record book.old { room = book.old.room + 1 }) }
-    ensures err { OnErr result ((disk_at tables.new ≡ disk_at tables.old) × (book.new ≡ book.old)) }
-    ensures locks { tables.new.locks ≡ tables.old.locks }
-    ensures slots { tables.new.slots ≡ tables.old.slots }
-{
-    book.make_room(1)?;
-    match tables.set_list(alloc, text) {
-        Ok(()) => Ok(()),
-        Err(e) => {
-            book.give_room(1);
-            Err(e)
-        }
-    }
-}
-
 /// What is known of every text of a list: it is bytes.
-fn text_known(text: &Option<Bytes>)
+pub(crate) fn text_known(text: &Option<Bytes>)
     ensures { TextFits text.now }
 {
     if let Some(text) = text {
         text.known();
-    }
-}
-
-/// Adds a process, in memory that was taken for it.
-fn halt(halted: &mut Vec<u32>, process: u32)
-    requires { vec_len halted.old < vec_capacity halted.old }
-    ensures { halted.new.items ≡ process ∷ halted.old.items }
-{
-    let _added = halted.insert(0, process);
-}
-
-/// How many Closes an answered call has to come.
-fn closes_by(call: &Call, reply: &Reply) -> usize
-    ensures { result ≡ the_closes call.now reply.now }
-{
-    match (call, reply) {
-        (Call::OpenOld { slot: _, name: _ }, Reply::Done) => 1,
-        (Call::OpenNew { slot: _, name: _ }, Reply::Done) => 1,
-        _ => 0,
     }
 }
 
@@ -227,7 +121,7 @@ impl World {
     pub fn is_open(&self, who: Who, slot: u8) -> bool
         ensures { result ≡ is_some ((disk_of self.now.past).slots who slot) }
     {
-        file_in(&self.tables.slots, who, slot).is_some()
+        self.tables.is_open(who, slot)
     }
 
     /// Whether a process was stopped.
@@ -508,6 +402,13 @@ impl World {
                 hurt: operation.hurt,
             },
         }
+    }
+
+    /// The files as they are now, and who has them open and locked.
+    pub(crate) fn tables(&self) -> &Tables
+        ensures { disk_at result.now ≡ disk_of self.now.past }
+    {
+        &self.tables
     }
 
     /// The files that were there at first.

@@ -1,10 +1,11 @@
 use Rattle.std.proofs.Common.{rules, ◌≡◌, ◌∙◌, ap, sym, length, filter, arith}
 use Rattle.std.proofs.lemmas.Fn.{filter_same}
-use Rattle.file_model.specs.declared.parts.OpenOperation.{OpenOperation}
+use Rattle.file_model.specs.declared.operations.OpenOperation.{OpenOperation}
 use Rattle.cache_types.specs.Seats.{same_seat}
 use Rattle.file_model.specs.Room.{ends_of}
-use Rattle.file_model.specs.Find.{total}
-use Rattle.file_model.proofs.Finds.{is_another, course_in-ended, lighter, lighter_by, goes_out, total_one}
+use Rattle.world_tables.specs.Find.{total}
+use Rattle.world_tables.proofs.Finds.{lighter, lighter_by, total_one}
+use Rattle.file_model.proofs.Ended.{is_another, course_in-ended, goes_out}
 use Rattle.file_model.proofs.operations.end.Goals as goal
 
 pub returns-clause-courses : goal.returns-clause-courses

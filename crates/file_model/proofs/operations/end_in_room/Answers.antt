@@ -1,7 +1,7 @@
 use Rattle.std.proofs.Common.{◌≡◌, ap, Some, arith, rules}
 use Rattle.file_model.specs.Operations.{operation_of}
 use Rattle.file_model.specs.Room.{ends_of}
-use Rattle.file_model.specs.Told.{Told}
+use Rattle.world_tables.specs.Told.{Told}
 use Rattle.file_model.proofs.operations.end_in_room.Goals as goal
 
 pub returns-then-operation-clause-room : goal.returns-then-operation-clause-room

@@ -2,11 +2,11 @@ use Rattle.std.proofs.Common.{◌≡◌, ◌∙◌, ◌++◌, ◌∷◌, [], ◌
 use Rattle.file_log.specs.declared.item.LogItem.{LogItem}
 use Rattle.file_log.specs.Legal.{IsLegal}
 use Rattle.file_log.specs.State.{state_of}
-use Rattle.file_model.specs.Find.{is_among}
+use Rattle.file_model.specs.Halted.{is_among}
 use Rattle.file_model.specs.Held.{Held}
 use Rattle.file_model.specs.Operations.{course_in}
-use Rattle.file_model.specs.Tables.{disk_at}
-use Rattle.file_model.specs.Told.{Told}
+use Rattle.world_tables.specs.Tables.{disk_at}
+use Rattle.world_tables.specs.Told.{Told}
 use Rattle.file_model.specs.Worlds.{past_of}
 use Rattle.file_model.proofs.Following.{follows_on, plain_disk, plain_stops, plain_course}
 use Rattle.file_model.proofs.world.World.add_plain.Goals as goal
@@ -24,6 +24,5 @@ invariant_of-self-2 c =
     record {
       follows = follows_on (past_of old) (disk_at old.tables) (disk_at old.tables) (is_among old.halted.items) (course_in old.operations.items) (course_in old.operations.items) (item ∷ []) c.put.new.self.items
           c.self.invariant.follows book (legal, tt) (plain_disk (disk_at old.tables) item plain) (plain_stops item plain) (λ w. plain_course w (course_in old.operations.items w) item plain);
-      once = c.self.invariant.once;
       room = omega (arith, c.self.invariant.room, left, taken);
     }

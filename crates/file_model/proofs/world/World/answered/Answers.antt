@@ -4,12 +4,12 @@ use Rattle.file_log.specs.declared.item.LogItem.{LogItem}
 use Rattle.file_log.specs.declared.item.LogItem.TheVariants.{Did}
 use Rattle.file_log.specs.Legal.{IsLegal}
 use Rattle.file_log.specs.State.{state_of}
-use Rattle.file_model.specs.Find.{is_among}
+use Rattle.file_model.specs.Halted.{is_among}
 use Rattle.file_model.specs.Held.{Held}
 use Rattle.file_model.specs.Operations.{course_in}
-use Rattle.file_model.specs.Room.{closes_by}
-use Rattle.file_model.specs.Tables.{disk_at}
-use Rattle.file_model.specs.Told.{Told}
+use Rattle.world_tables.specs.Room.{closes_by}
+use Rattle.world_tables.specs.Tables.{disk_at}
+use Rattle.world_tables.specs.Told.{Told}
 use Rattle.file_model.specs.Worlds.{past_of}
 use Rattle.file_model.proofs.Following.{follows_on, follows_still, either}
 use Rattle.file_model.proofs.world.World.answered.Goals as goal
@@ -23,7 +23,6 @@ invariant_of-self c =
     record {
       follows = follows_still (past_of old) (disk_at old.tables) (disk_at c.answer_in_room.new.tables) (is_among old.halted.items) (course_in old.operations.items) (course_in old.operations.items) c.answer_in_room.new.book.items
           c.self.invariant.follows items same.0 (λ w. refl);
-      once = c.in_err-answer_in_room.ensures.once;
       room = omega (arith, c.self.invariant.room, room, c.in_err-answer_in_room.ensures.no_more);
     }
 
@@ -43,6 +42,5 @@ invariant_of-self-2 c =
     record {
       follows = follows_on (past_of old) (disk_at old.tables) (disk_at c.answer_in_room.new.tables) (is_among old.halted.items) (course_in old.operations.items) (course_in old.operations.items) (item ∷ []) c.put.new.self.items
           c.self.invariant.follows book (legal, tt) c.in_ok-answer_in_room.ensures.ok (λ halted process. refl) (λ w. sym (either (same_seat w who) (course_in old.operations.items w)));
-      once = c.in_ok-answer_in_room.ensures.once;
       room = omega (arith, c.self.invariant.room, taken, left, c.in_ok-answer_in_room.ensures.closes);
     }

@@ -9,12 +9,12 @@ use Rattle.file_log.specs.Legal.{IsOpen}
 use Rattle.file_log.specs.Seat.{IsFilled}
 use Rattle.file_log.specs.State.{state_of, disk_of}
 use Rattle.file_model.specs.Calls.{filled_of}
-use Rattle.file_model.specs.Find.{is_among}
+use Rattle.file_model.specs.Halted.{is_among}
 use Rattle.file_model.specs.Held.{Held}
 use Rattle.file_model.specs.Operations.{course_in}
-use Rattle.file_model.specs.Room.{closes}
-use Rattle.file_model.specs.Tables.{disk_at}
-use Rattle.file_model.specs.Told.{Told}
+use Rattle.world_tables.specs.Room.{closes}
+use Rattle.world_tables.specs.Tables.{disk_at}
+use Rattle.world_tables.specs.Told.{Told}
 use Rattle.file_model.specs.Worlds.{past_of}
 use Rattle.file_model.proofs.Following.{follows_on, either}
 use Rattle.file_model.proofs.world.World.close.Goals as goal
@@ -35,6 +35,5 @@ invariant_of-self c =
     record {
       follows = follows_on (past_of old) (disk_at old.tables) (disk_at c.close.new.self) (is_among old.halted.items) (course_in old.operations.items) (course_in old.operations.items) (item ∷ []) c.put.new.self.items
           c.self.invariant.follows book ((alive, (is_open, tt)), tt) c.close.ensures.disk (λ halted process. refl) (λ w. sym (either (same_seat w who) (course_in old.operations.items w)));
-      once = c.close.ensures.once;
       room = omega (arith, c.self.invariant.room, left, fewer);
     }

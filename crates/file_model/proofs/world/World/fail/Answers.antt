@@ -2,11 +2,11 @@ use Rattle.std.proofs.Common.{◌≡◌, ◌∙◌, ◌++◌, ◌∷◌, [], ◌
 use Rattle.file_log.specs.declared.item.LogItem.{LogItem}
 use Rattle.file_log.specs.declared.item.LogItem.TheVariants.{Failed}
 use Rattle.file_log.specs.State.{state_of}
-use Rattle.file_model.specs.Find.{is_among}
+use Rattle.file_model.specs.Halted.{is_among}
 use Rattle.file_model.specs.Held.{Held}
 use Rattle.file_model.specs.Operations.{course_in}
-use Rattle.file_model.specs.Tables.{disk_at}
-use Rattle.file_model.specs.Told.{Told}
+use Rattle.world_tables.specs.Tables.{disk_at}
+use Rattle.world_tables.specs.Told.{Told}
 use Rattle.file_model.specs.Worlds.{past_of}
 use Rattle.file_model.proofs.Following.{follows_on}
 use Rattle.file_model.proofs.world.World.fail.Goals as goal
@@ -23,6 +23,5 @@ invariant_of-self-2 c =
     record {
       follows = follows_on (past_of old) (disk_at old.tables) (disk_at old.tables) (is_among old.halted.items) (course_in old.operations.items) (course_in new.operations.items) (item ∷ []) c.put.new.self.items
           c.self.invariant.follows book ((alive, tt), tt) refl (λ halted process. refl) c.in_ok-fail_in_room.ensures.courses;
-      once = c.self.invariant.once;
       room = omega (arith, c.self.invariant.room, left, c.in_ok-fail_in_room.ensures.room);
     }

@@ -1,9 +1,9 @@
-use Rattle.std.proofs.Common.{◌≡◌, ◌∙◌, ◌<◌, ◌++◌, [], ◌+◌, ◌-◌, ℕ, List, length, take, drop, ap, sym, subst, append_assoc, arith, length-append}
+use Rattle.std.proofs.Common.{◌≡◌, ◌∙◌, ◌++◌, [], ◌+◌, List, length, take, drop, ap, sym, subst, append_assoc, arith, length-append}
 use Rattle.std.proofs.lemmas.List.{append-nil, take_all}
 use Rattle.file_log.specs.declared.item.LogItem.{LogItem}
-use Rattle.file_model.specs.Held.{Held, first_of}
-use Rattle.file_model.specs.declared.piece.Piece.{Piece}
-use Rattle.file_model.specs.Pieces.{items_of_piece, items_of_pieces, items_grown}
+use Rattle.file_model.specs.Held.{first_of}
+use Rattle.world_tables.specs.declared.piece.Piece.{Piece}
+use Rattle.world_tables.specs.Pieces.{items_of_piece, items_of_pieces, items_grown}
 use Rattle.file_model.proofs.Replays.{can_go_on, goes_on, pieces-more, pieces-whole}
 use Rattle.file_model.proofs.world.World.first_items.Goals as goal
 

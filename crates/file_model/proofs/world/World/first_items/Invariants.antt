@@ -1,6 +1,6 @@
 use Rattle.std.proofs.Common.{◌≡◌, ◌-◌, length, take}
 use Rattle.file_model.specs.Held.{first_of}
-use Rattle.file_model.specs.Pieces.{items_of_pieces}
+use Rattle.world_tables.specs.Pieces.{items_of_pieces}
 use Rattle.file_model.proofs.world.World.first_items.Given as goal
 
 abbrev pub invariant-loop-piece : goal.invariant-loop-piece

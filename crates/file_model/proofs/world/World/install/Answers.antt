@@ -4,11 +4,11 @@ use Rattle.file_log.specs.declared.item.LogItem.{LogItem}
 use Rattle.file_log.specs.declared.item.LogItem.TheVariants.{Install}
 use Rattle.file_log.specs.Legal.{IsLegal}
 use Rattle.file_log.specs.State.{state_of, disk_of}
-use Rattle.file_model.specs.Find.{is_among}
+use Rattle.file_model.specs.Halted.{is_among}
 use Rattle.file_model.specs.Held.{Held}
 use Rattle.file_model.specs.Operations.{course_in}
-use Rattle.file_model.specs.Tables.{disk_at}
-use Rattle.file_model.specs.Told.{Told}
+use Rattle.world_tables.specs.Tables.{disk_at}
+use Rattle.world_tables.specs.Told.{Told}
 use Rattle.file_model.specs.Worlds.{past_of}
 use Rattle.file_model.proofs.Following.{follows_on}
 use Rattle.file_model.proofs.world.World.install.Goals as goal
@@ -31,6 +31,5 @@ invariant_of-self-2 c =
     record {
       follows = follows_on (past_of old) (disk_at old.tables) (disk_at new.tables) (is_among old.halted.items) (course_in old.operations.items) (course_in old.operations.items) (item ∷ []) c.put.new.self.items
           c.self.invariant.follows book (legal, tt) done.ok (λ halted process. refl) (λ w. refl);
-      once = rw done.locks c.self.invariant.once;
       room = rw done.slots (omega (arith, c.self.invariant.room, left, taken));
     }

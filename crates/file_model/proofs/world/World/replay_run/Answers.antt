@@ -5,8 +5,8 @@ use Rattle.std.proofs.lemmas.Grind.{common_steps}
 use Rattle.file_log.specs.declared.item.LogItem.{LogItem}
 use Rattle.file_log.specs.Exchange.{byte_items}
 use Rattle.file_model.specs.Held.{told}
-use Rattle.file_model.specs.Pieces.{items_of_run}
-use Rattle.file_model.proofs.Runs.{byte_items-take}
+use Rattle.world_tables.specs.Pieces.{items_of_run}
+use Rattle.world_tables.proofs.Runs.{byte_items-take}
 use Rattle.file_model.proofs.world.World.replay_run.Goals as goal
 
 pub returns : goal.returns

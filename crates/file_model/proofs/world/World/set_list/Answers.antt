@@ -1,10 +1,10 @@
 use Rattle.std.proofs.Common.{◌≡◌, ◌∙◌, ◌++◌, ◌∷◌, [], ◌+◌, ◌-◌, List, ap, refl, arith}
 use Rattle.file_log.specs.declared.item.LogItem.{LogItem}
 use Rattle.file_log.specs.declared.item.LogItem.TheVariants.{SetList}
-use Rattle.file_model.specs.Find.{is_among}
+use Rattle.file_model.specs.Halted.{is_among}
 use Rattle.file_model.specs.Operations.{course_in}
-use Rattle.file_model.specs.Tables.{disk_at}
-use Rattle.file_model.specs.Told.{Told}
+use Rattle.world_tables.specs.Tables.{disk_at}
+use Rattle.world_tables.specs.Told.{Told}
 use Rattle.file_model.specs.Worlds.{past_of}
 use Rattle.file_model.proofs.Following.{follows_on}
 use Rattle.file_model.proofs.world.World.set_list.Goals as goal
@@ -22,6 +22,5 @@ invariant_of-self-2 c =
     record {
       follows = follows_on (past_of old) (disk_at old.tables) (disk_at new.tables) (is_among old.halted.items) (course_in old.operations.items) (course_in old.operations.items) (item ∷ []) c.put.new.self.items
           c.self.invariant.follows book ((tt, c.text_known.ensures), tt) done.ok (λ halted process. refl) (λ w. refl);
-      once = rw done.locks c.self.invariant.once;
       room = rw done.slots (omega (arith, c.self.invariant.room, left, taken));
     }

@@ -1,10 +1,10 @@
 use Rattle.std.proofs.Common.{◌≡◌, ◌∙◌, ◌++◌, ◌∷◌, [], ◌+◌, ◌-◌, List, ℕ, ap, refl, arith}
 use Rattle.file_log.specs.declared.item.LogItem.{LogItem}
 use Rattle.file_log.specs.declared.item.LogItem.TheVariants.{Stop}
-use Rattle.file_model.specs.Find.{is_among}
+use Rattle.file_model.specs.Halted.{is_among}
 use Rattle.file_model.specs.Operations.{course_in}
-use Rattle.file_model.specs.Tables.{disk_at}
-use Rattle.file_model.specs.Told.{Told}
+use Rattle.world_tables.specs.Tables.{disk_at}
+use Rattle.world_tables.specs.Told.{Told}
 use Rattle.file_model.specs.Worlds.{past_of}
 use Rattle.file_model.proofs.Following.{follows_to}
 use Rattle.file_model.proofs.world.World.stop.Goals as goal
@@ -22,6 +22,5 @@ invariant_of-self-2 c =
     record {
       follows = follows_to (past_of old) (disk_at old.tables) (disk_at c.stop.new.self) (is_among old.halted.items) (is_among c.halt.new.halted.items) (course_in old.operations.items) (course_in old.operations.items) (item ∷ []) c.put.new.self.items
           c.self.invariant.follows book ((tt, tt), tt) c.stop.ensures.disk (λ p. ap (λ (xs : List ℕ). is_among xs p) halted) (λ w. refl);
-      once = c.stop.ensures.once;
       room = omega (arith, c.self.invariant.room, left, taken, c.stop.ensures.no_more);
     }

@@ -5,11 +5,11 @@ use Rattle.file_log.specs.Legal.{IsLegal, IsOpen}
 use Rattle.file_log.specs.Seat.{IsFilled}
 use Rattle.file_log.specs.State.{state_of, disk_of}
 use Rattle.file_model.specs.Calls.{filled_of}
-use Rattle.file_model.specs.Find.{is_among}
+use Rattle.file_model.specs.Halted.{is_among}
 use Rattle.file_model.specs.Held.{Held}
 use Rattle.file_model.specs.Operations.{course_in}
-use Rattle.file_model.specs.Tables.{disk_at}
-use Rattle.file_model.specs.Told.{Told}
+use Rattle.world_tables.specs.Tables.{disk_at}
+use Rattle.world_tables.specs.Told.{Told}
 use Rattle.file_model.specs.Worlds.{past_of}
 use Rattle.file_model.proofs.Following.{follows_on, either}
 use Rattle.file_model.proofs.world.World.write_byte.Goals as goal
@@ -29,6 +29,5 @@ invariant_of-self-2 c =
     record {
       follows = follows_on (past_of old) (disk_at old.tables) (disk_at c.write_byte.new.self) (is_among old.halted.items) (course_in old.operations.items) (course_in old.operations.items) (item ∷ []) c.write_byte.new.book.items
           c.self.invariant.follows (ap (λ (t : Told). t.items) told) (legal, tt) c.in_ok-write_byte.ensures.ok (λ halted process. refl) (λ w. sym (either (same_seat w who) (course_in old.operations.items w)));
-      once = rw c.in_ok-write_byte.ensures.locks c.self.invariant.once;
       room = rw (c.in_ok-write_byte.ensures.slots, told) c.self.invariant.room;
     }

@@ -4,11 +4,11 @@ use Rattle.file_log.specs.Legal.{IsOpen}
 use Rattle.file_log.specs.Seat.{IsFilled}
 use Rattle.file_log.specs.State.{state_of, disk_of}
 use Rattle.file_model.specs.Calls.{filled_of}
-use Rattle.file_model.specs.Find.{is_among}
+use Rattle.file_model.specs.Halted.{is_among}
 use Rattle.file_model.specs.Held.{Held}
 use Rattle.file_model.specs.Operations.{course_in}
-use Rattle.file_model.specs.Tables.{disk_at}
-use Rattle.file_model.specs.Told.{Told}
+use Rattle.world_tables.specs.Tables.{disk_at}
+use Rattle.world_tables.specs.Told.{Told}
 use Rattle.file_model.specs.Worlds.{past_of}
 use Rattle.file_model.proofs.Following.{follows_on, run_after, run_stops_none, run_courses, run_legal}
 use Rattle.file_model.proofs.world.World.write_run.Goals as goal
@@ -29,7 +29,6 @@ invariant_of-self-2 c =
       follows = follows_on (past_of old) (disk_at old.tables) (disk_at c.write_run.new.self) (is_among old.halted.items) (course_in old.operations.items) (course_in old.operations.items) items c.write_run.new.book.items
           c.self.invariant.follows (ap (λ (t : Told). t.items) told) (run_legal (state_of (past_of old)) who slot at values alive is_open c.known.ensures)
           (c.in_ok-write_run.ensures.ok ∙ sym (run_after (disk_at old.tables) who slot at values)) (run_stops_none who slot at values) (λ w. run_courses who slot at values w (course_in old.operations.items w));
-      once = rw c.in_ok-write_run.ensures.locks c.self.invariant.once;
       room = rw (c.in_ok-write_run.ensures.slots, told) c.self.invariant.room;
     }
 

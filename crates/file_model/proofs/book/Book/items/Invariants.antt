@@ -1,6 +1,0 @@
-use Rattle.std.proofs.Common.{◌≡◌, take}
-use Rattle.file_model.specs.Pieces.{items_of_pieces}
-use Rattle.file_model.proofs.book.Book.items.Given as goal
-
-abbrev pub invariant-loop-piece : goal.invariant-loop-piece
-invariant-loop-piece l = l.items.items ≡ items_of_pieces (take l.piece-index l.piece-items)

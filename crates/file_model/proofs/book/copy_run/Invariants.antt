@@ -1,6 +1,0 @@
-use Rattle.std.proofs.Common.{◌≡◌, ◌++◌, take}
-use Rattle.file_log.specs.Exchange.{byte_items}
-use Rattle.file_model.proofs.book.copy_run.Given as goal
-
-abbrev pub invariant-loop-index : goal.invariant-loop-index
-invariant-loop-index l = l.items.items ≡ l.fn.items.items ++ byte_items l.run.who l.run.slot l.run.at (take l.index l.run.bytes)

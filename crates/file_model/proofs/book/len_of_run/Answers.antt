@@ -1,8 +1,0 @@
-use Rattle.std.proofs.Common.{◌∙◌, sym}
-use Rattle.file_model.proofs.Runs.{length-byte_items}
-use Rattle.file_model.proofs.book.len_of_run.Goals as goal
-
-pub returns : goal.returns
-returns c =
-    let run = c.args.run.now in
-    c.len.ensures ∙ sym (length-byte_items run.who run.slot run.at run.bytes)

@@ -1,0 +1,7 @@
+pub mod Runs
+pub mod Finds
+pub mod Holding
+pub mod Disks
+pub mod Starts
+pub mod Listings
+pub mod OneListing

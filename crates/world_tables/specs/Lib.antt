@@ -1,0 +1,10 @@
+pub mod Find
+pub mod Listing
+pub mod Locks
+pub mod Pieces
+pub mod Told
+pub mod Books
+pub mod Calls
+pub mod Room
+pub mod Tables
+pub mod Starts
