@@ -1,5 +1,5 @@
 -- The slots of a seat are left alone by the items of others, unless its process is stopped.
-use Rattle.std.proofs.Common.{◌≡◌, ℕ, Bool, true, false, cond, ◌&&◌, nat_eq, List, [], ◌∷◌, take, Option, Some, None, refl, ◌∙◌}
+use Rattle.std.proofs.Common.{◌≡◌, ℕ, false, List, [], ◌∷◌, take, Option, Some, None, refl, ◌∙◌}
 use Rattle.cache_types.specs.Seats.{same_seat}
 use Rattle.cache_types.specs.declared.name.Name.{Name}
 use Rattle.cache_types.specs.declared.seat.Who.{Who}

@@ -1,6 +1,6 @@
 -- Every disk is tidy: at first, and after each item.
 use Rattle.std.proofs.Common.{◌≡◌, ℕ, ◌+◌, ◌<◌, ◌≤◌, Bool, true, false, cond, nat_eq, ◌&&◌, List, [], ◌∷◌, fold, length, take, Option, Some, None, refl, sym, ◌∙◌, arith, if◌then◌else◌}
-use Rattle.std.proofs.lemmas.Bool.{false≢true}
+use Rattle.std.proofs.lemmas.Bool.{false≢true, eqb-true}
 use Rattle.cache_types.specs.Names.{same_name}
 use Rattle.cache_types.specs.Seats.{same_seat}
 use Rattle.cache_types.specs.declared.name.Name.{Name}
@@ -13,7 +13,7 @@ use Rattle.file_log.specs.declared.item.LogItem.{LogItem}
 use Rattle.file_log.specs.declared.item.LogItem.TheVariants as items
 use Rattle.file_log.specs.declared.reply.Reply.{Reply}
 use Rattle.file_log.specs.declared.reply.Reply.TheVariants.{Done}
-use Rattle.file_log.specs.Disk.{Disk, Start, number_from, opening, with_slot, named, created, made, made_at, rewritten, renamed, locked, freed, stopped, listed}
+use Rattle.file_log.specs.Disk.{Disk, Lock, Start, lock_taken, is_slot, is_process, number_from, opening, with_slot, named, created, made, made_at, rewritten, renamed, locked, freed, stopped, listed}
 use Rattle.file_log.specs.Effect.{applied, after_call, done_call}
 use Rattle.file_log.specs.Log.{History}
 use Rattle.file_log.specs.State.{State, first, after, disk_of}
@@ -54,6 +54,7 @@ pub opening_tidy : (start : Start) → IsTidy (opening start)
 opening_tidy start = record {
   there = λ name f e. let n = numbered 0 start name f e in omega (arith, n.1);
   filled = λ who slot f e. absurd cc;
+  locked = λ f lock e. absurd cc;
   apart = λ a b f e g. numbers_apart 0 start a b f e g;
 }
 
@@ -71,6 +72,7 @@ slot_tidy : (d : Disk) (who : Who) (slot : ℕ) (file : Option ℕ) → IsTidy d
 slot_tidy d who slot file t below = record {
   there = t.there;
   filled = λ other at. either_way (IsBelow d.count) (same_seat other who && nat_eq slot at) file (d.slots other at) below (t.filled other at);
+  locked = t.locked;
   apart = t.apart;
 }
 
@@ -79,6 +81,7 @@ unnamed_tidy : (d : Disk) (name : Name) → IsTidy d → IsTidy (named d name No
 unnamed_tidy d name t = record {
   there = λ n f e. by_test n f _ e (λ h. t.there n f h);
   filled = t.filled;
+  locked = t.locked;
   apart = λ a b f e g. by_test a f _ e (λ h. by_test b f _ g (λ h'. t.apart a b f h h'));
 }
   where
@@ -91,6 +94,7 @@ named_tidy : (d : Disk) (name : Name) (f : ℕ) → IsTidy d → f < d.count →
 named_tidy d name f t below only = record {
   there = λ n g e. there_by n g _ e;
   filled = t.filled;
+  locked = t.locked;
   apart = λ a b g e e'. apart_by a b g _ _ refl refl e e';
 }
   where
@@ -112,6 +116,7 @@ grown_tidy : (d : Disk) (bytes : List ℕ) → IsTidy d → IsTidy (grown d byte
 grown_tidy d bytes t = record {
   there = λ n f e. let below = t.there n f e in omega (arith, below);
   filled = λ who at f e. let below = t.filled who at f e in omega (arith, below);
+  locked = λ f lock e. let below = t.locked f lock e in omega (arith, below);
   apart = t.apart;
 }
 
@@ -125,7 +130,7 @@ made_tidy (Some f) d name t = t
 
 rewritten_tidy : (d : Disk) (file : Option ℕ) (change : List ℕ → List ℕ) → IsTidy d → IsTidy (rewritten d file change)
 rewritten_tidy d None change t = t
-rewritten_tidy d (Some f) change t = record { there = t.there; filled = t.filled; apart = t.apart }
+rewritten_tidy d (Some f) change t = record { there = t.there; filled = t.filled; locked = t.locked; apart = t.apart }
 
 renamed_tidy : (d : Disk) (file : Option ℕ) (from to : Name) → d.names from ≡ file → IsTidy d → IsTidy (renamed d file from to)
 renamed_tidy d None from to e t = t
@@ -136,17 +141,36 @@ renamed_tidy d (Some f) from to e t =
     by_test n true s h = absurd cc
     by_test n false s h = absurd (false≢true (sym s ∙ (same_name_decides from n).1 (t.apart from n f e h)))
 
-locked_tidy : (d : Disk) (who : Who) (slot : ℕ) (file : Option ℕ) → IsTidy d → IsTidy (locked d who slot file)
-locked_tidy d who slot None t = t
-locked_tidy d who slot (Some f) t = record { there = t.there; filled = t.filled; apart = t.apart }
+-- a file that is locked is there
+abbrev IsThere : Disk → ℕ → Option Lock → Type 0
+IsThere d f lock = (l : Lock) → lock ≡ Some l → f < d.count
+
+locked_tidy : (d : Disk) (who : Who) (slot : ℕ) (file : Option ℕ) → d.slots who slot ≡ file → IsTidy d → IsTidy (locked d who slot file)
+locked_tidy d who slot None e t = t
+locked_tidy d who slot (Some f) e t = record {
+  there = t.there;
+  filled = t.filled;
+  locked = λ g. by_test g (nat_eq f g) refl;
+  apart = t.apart;
+}
+  where
+    by_test : (g : ℕ) (b : Bool) → nat_eq f g ≡ b → IsThere d g (cond b (lock_taken (d.locks f) (record { who = who; slot = slot })) (d.locks g))
+    by_test g true same = λ l is. let one : f ≡ g = eqb-true f g same in let below = t.filled who slot f e in omega (arith, one, below)
+    by_test g false other = t.locked g
 
 freed_tidy : (d : Disk) (who : Who) (slot : ℕ) → IsTidy d → IsTidy (freed d who slot)
-freed_tidy d who slot t = record { there = t.there; filled = t.filled; apart = t.apart }
+freed_tidy d who slot t = record {
+  there = t.there;
+  filled = t.filled;
+  locked = λ f. either_way (IsThere d f) (is_slot (d.locks f) who slot) None (d.locks f) (λ l e. absurd cc) (t.locked f);
+  apart = t.apart;
+}
 
 stopped_tidy : (d : Disk) (process : ℕ) → IsTidy d → IsTidy (stopped d process)
 stopped_tidy d process t = record {
   there = t.there;
   filled = λ who at. either_way (IsBelow d.count) (nat_eq who.process process) None (d.slots who at) (λ f e. absurd cc) (t.filled who at);
+  locked = λ f. either_way (IsThere d f) (is_process process (d.locks f)) None (d.locks f) (λ l e. absurd cc) (t.locked f);
   apart = t.apart;
 }
 
@@ -161,7 +185,7 @@ done_tidy d who (calls.OpenOld slot name) t = slot_tidy d who slot (d.names name
 done_tidy d who (calls.OpenNew slot name) t =
     let m = made_tidy (d.names name) d name t in
     slot_tidy (made d name) who slot ((made d name).names name) m (m.there name)
-done_tidy d who (calls.TryLock slot) t = locked_tidy d who slot (d.slots who slot) t
+done_tidy d who (calls.TryLock slot) t = locked_tidy d who slot (d.slots who slot) refl t
 done_tidy d who (calls.Cut slot n) t = rewritten_tidy d (d.slots who slot) (take n) t
 done_tidy d who (calls.Rename from to) t = renamed_tidy d (d.names from) from to refl t
 done_tidy d who (calls.Remove name) t = unnamed_tidy d name t

@@ -22,7 +22,7 @@ use Rattle.folder_store.specs.Put.{is_change, is_want}
 
 -- ---- the root in which they stand
 
-all_append : (P : LogItem → Type 0) (xs ys : List LogItem) → AllByRecursion P xs → AllByRecursion P ys → AllByRecursion P (xs ++ ys)
+pub all_append : (P : LogItem → Type 0) (xs ys : List LogItem) → AllByRecursion P xs → AllByRecursion P ys → AllByRecursion P (xs ++ ys)
 all_append P [] ys a b = b
 all_append P (x ∷ xs) ys a b = (a.0, all_append P xs ys a.1 b)
 

@@ -1,4 +1,4 @@
--- The calls of a put: all in its root, and at most fourteen.
+-- The calls of a put: all in its root, and at most so many.
 use Rattle.std.proofs.Common.{◌≡◌, ◌≤◌, ◌+◌, ◌<◌, ℕ, Bool, true, false, List, refl, ap, subst, ◌∙◌, arith}
 use Rattle.cache_types.specs.declared.key.Key.{Key}
 use Rattle.cache_types.specs.Driver.{DriverKeys}
@@ -10,8 +10,9 @@ use Rattle.files_api.specs.declared.machine.Step.{Step}
 use Rattle.files_api.specs.declared.machine.Step.TheVariants.{Ask, Done}
 use Rattle.files_api.specs.Drive.{IsWithin, Goes}
 use Rattle.folder_store.specs.declared.put.FolderPut.{FolderPut}
-use Rattle.folder_store.specs.declared.put.PutPhase.{PutPhase}
-use Rattle.folder_store.specs.declared.put.PutPhase.TheVariants.{Opening, Measuring, Reading, ReadingFront, Leaving, Evicting, Making, Cutting, Writing, Renaming, ClosingEntry, ClosingTemp}
+use Rattle.folder_store.specs.declared.put_phase.Besides.TheVariants.{LockAndTemp}
+use Rattle.folder_store.specs.declared.put_phase.PutPhase.{PutPhase}
+use Rattle.folder_store.specs.declared.put_phase.PutPhase.TheVariants.{Opening, Measuring, Reading, ReadingFront, Leaving, OpeningLock, Locking, Pausing, Evicting, Making, Cutting, Writing, Renaming, ClosingEntry, ClosingTemp, ClosingLock}
 use Rattle.folder_store.specs.PutLaws.{put_goes_on}
 use Rattle.folder_store.specs.PutPhases.{asks_put, asks_put_in, asked_put, after_put_asking, unless_done, NextPut, FedPut, put_slots_in, put_hurt_in, put_left_in}
 use Rattle.folder_store.proofs.Items.{weight, AsksWithin, Lasts, Spends}
@@ -34,13 +35,17 @@ within_in root key item (Measuring look) = (tt, tt)
 within_in root key item (Reading look length) = (tt, tt)
 within_in root key item ReadingFront = (tt, tt)
 within_in root key item Leaving = (tt, tt)
+within_in root key item OpeningLock = (tt, refl)
+within_in root key item (Locking again) = (tt, tt)
+within_in root key item (Pausing again) = (tt, tt)
 within_in root key item (Evicting driver) = (tt, tt)
 within_in root key item (Making entry) = (tt, refl)
 within_in root key item (Cutting entry) = (tt, tt)
 within_in root key item (Writing entry) = (tt, tt)
 within_in root key item (Renaming entry) = (tt, (refl, refl))
-within_in root key item (ClosingEntry answer temp) = (tt, tt)
+within_in root key item (ClosingEntry answer besides) = (tt, tt)
 within_in root key item (ClosingTemp answer) = (tt, tt)
+within_in root key item (ClosingLock answer) = (tt, tt)
 within_in root key item p = tt
 
 pub put_within : (root : ℕ) → AsksWithin asks_put asked_put FedPut root (λ m. m.root ≡ root)
@@ -55,7 +60,7 @@ abbrev weight_of : Step → Reply → ℕ
 weight_of (Ask call) reply = weight call reply
 weight_of (Done answer) reply = 0
 
-after_write : (entry : Bool) (slot at : ℕ) (bytes : List ℕ) (reply : Reply) (q : PutPhase) → q ≡ unless_done reply entry true (Renaming entry) → weight (WriteAt slot at bytes) reply + put_left_in q ≤ 4
+after_write : (entry : Bool) (slot at : ℕ) (bytes : List ℕ) (reply : Reply) (q : PutPhase) → q ≡ unless_done reply entry LockAndTemp (Renaming entry) → weight (WriteAt slot at bytes) reply + put_left_in q ≤ 5
 after_write true slot at bytes replies.Done q e = rw e (omega arith)
 after_write true slot at bytes reply q e = rw e (omega arith)
 after_write false slot at bytes replies.Done q e = rw e (omega arith)

@@ -32,6 +32,7 @@ use Rattle.item_frame.specs.Item.{Reads}
 use Rattle.item_frame.proofs.Laws.{Reads-from_as, at_least}
 use Rattle.folder_store.specs.declared.put.FolderPut.{FolderPut}
 use Rattle.folder_store.specs.Entries.{folder_of, with_item, EntriesAreWhole, IsWholeAfter, EvictIsOpen, ReplacesTold, IsSpared, OthersSpare}
+use Rattle.folder_store.specs.Locking.{IsUnlocked}
 use Rattle.folder_store.specs.Put.{AsksPut, blob_in, Leaves, LeavesElsewhere, TellsEvicts, PutsAlone, is_evict}
 use Rattle.folder_store.specs.PutPhases.{IsNewPut, asks_put, asked_put, FedPut}
 use Rattle.folder_store.proofs.PutKnown.{Job, Place, step}
@@ -101,17 +102,17 @@ module _ (me : Who) (request : Request) (root : ℕ) (driver : DriverKeys) (key 
     abbrev made : List LogItem
     made = items.Begin me request ∷ (items_of_all xs ++ items.End me answer ∷ [])
 
-    right_from : (alone : Bool) (h : History) (news : List LogItem) → OwnsToEnd me made h news → All with_item (OthersSpare me root key) h news → (alone ≡ true → AreOwn me news) → All (step me) (IsKept alone) (place_of h) news
-    right_from alone h news o spare mine =
+    right_from : (alone : Bool) (h : History) (news : List LogItem) → OwnsToEnd me made h news → All with_item (OthersSpare me root key) h news → (alone ≡ true → AreOwn me news) → (alone ≡ true → IsUnlocked me root key (disk_of h)) → All (step me) (IsKept alone) (place_of h) news
+    right_from alone h news o spare mine free =
         let fair = fair_of alone h (place_of h) news (record { state = refl; log = refl }) o.owns.legal spare mine in
-        all_right (job alone) request fits (filled driver item blob reads) asks reads begin answer news (place_of h) xs given end new runs answer_is o.owns.own_items (tidy h) fair o.owns.goes_on
+        all_right (job alone) request fits (filled driver item blob reads) asks reads begin answer news (place_of h) xs given end new runs answer_is o.owns.own_items (record { tidy = tidy h; free = free }) fair o.owns.goes_on
 
     pub put_whole : (h : History) (news : List LogItem) → OwnsToEnd me made h news → All with_item (OthersSpare me root key) h news → EntriesAreWhole h → Keeps with_item IsWholeAfter me h news
     put_whole h news o spare whole =
-        keeps_whole false h (place_of h) news (record { state = refl; log = refl }) (right_from false h news o spare (λ is. absurd (false≢true is))) whole
+        keeps_whole false h (place_of h) news (record { state = refl; log = refl }) (right_from false h news o spare (λ is. absurd (false≢true is)) (λ is. absurd (false≢true is))) whole
 
     pub put_tells : (h : History) (news : List LogItem) → OwnsToEnd me made h news → All with_item (OthersSpare me root key) h news → Keeps with_item ReplacesTold me h news
-    put_tells h news o spare = keeps_told false h (place_of h) news (record { state = refl; log = refl }) (right_from false h news o spare (λ is. absurd (false≢true is)))
+    put_tells h news o spare = keeps_told false h (place_of h) news (record { state = refl; log = refl }) (right_from false h news o spare (λ is. absurd (false≢true is)) (λ is. absurd (false≢true is)))
 
     -- ---- alone
 
@@ -142,11 +143,11 @@ module _ (me : Who) (request : Request) (root : ℕ) (driver : DriverKeys) (key 
         subst (λ (d : Disk). IsAlone d (disk_of (with_items h made)) (filter is_evict made)) base
         (subst (λ (d : Disk). IsAlone p.base d (filter is_evict made)) disk (subst (λ (l : List LogItem). IsAlone p.base p.state.disk l) all_told here))
 
-    pub put_alone : (h : History) (news : List LogItem) → OwnsToEnd me made h news → AllByRecursion (IsWithinRoot root) inner → own me news ≡ news → PutsAlone me root driver key blob answer (disk_of h) (disk_of (with_items h news)) (own me news)
-    put_alone h news o within alone =
+    pub put_alone : (h : History) (news : List LogItem) → OwnsToEnd me made h news → AllByRecursion (IsWithinRoot root) inner → own me news ≡ news → IsUnlocked me root key (disk_of h) → PutsAlone me root driver key blob answer (disk_of h) (disk_of (with_items h news)) (own me news)
+    put_alone h news o within alone free =
         let is : made ≡ news = sym o.owns.own_items ∙ alone in
         let mine = are_own me news alone in
-        let all = right_from true h news o (own_spare me root key h news mine) (λ same. mine) in
+        let all = right_from true h news o (own_spare me root key h news mine) (λ same. mine) (λ same. free) in
         let ended = at_end h within (subst (AreOwn me) (sym is) mine) (subst (λ (l : List LogItem). All (step me) (IsKept true) (place_of h) l) (sym is) all) in
         let at_news : IsAlone (disk_of h) (disk_of (with_items h news)) (filter is_evict made) = subst (λ (l : List LogItem). IsAlone (disk_of h) (disk_of (with_items h l)) (filter is_evict made)) is ended in
         let whole : IsAlone (disk_of h) (disk_of (with_items h news)) (filter is_evict (own me news)) = subst (λ (l : List LogItem). IsAlone (disk_of h) (disk_of (with_items h news)) (filter is_evict l)) (sym o.owns.own_items) at_news in

@@ -16,16 +16,19 @@ use Rattle.file_log.specs.Log.{is_own}
 use Rattle.file_log.specs.Operation.{IsStill}
 use Rattle.file_log.specs.State.{State, after}
 use Rattle.disk_laws.specs.Tidy.{IsTidy}
-use Rattle.folder_store.specs.declared.put.PutPhase.{PutPhase}
-use Rattle.folder_store.specs.declared.put.PutPhase.TheVariants.{Opening, Measuring, Reading, ReadingFront, Leaving, Evicting, Evicted, Making, Cutting, Writing, Renaming, ClosingEntry, ClosingTemp, Ended, Spent}
+use Rattle.folder_store.specs.declared.put_phase.Look.{Look}
+use Rattle.folder_store.specs.declared.put_phase.Look.TheVariants.{First, Second}
+use Rattle.folder_store.specs.declared.put_phase.PutPhase.{PutPhase}
+use Rattle.folder_store.specs.declared.put_phase.PutPhase.TheVariants.{Opening, Measuring, Reading, ReadingFront, Leaving, OpeningLock, Locking, Pausing, Evicting, Evicted, Making, Cutting, Writing, Renaming, ClosingEntry, ClosingTemp, ClosingLock, Ended, Spent}
 use Rattle.folder_store.specs.Entries.{folder_of, IsPutItem, NoEndOf, is_end_of, EvictIsOpen, IsSpared}
 use Rattle.folder_store.specs.Holds.{FileReads}
 use Rattle.folder_store.specs.Put.{LeavesElsewhere, TellsReplaced}
-use Rattle.folder_store.proofs.PutDisks.{HasOld, HasTemp, spared_file}
+use Rattle.folder_store.specs.Locking.{lock_name, IsUnlocked}
+use Rattle.folder_store.proofs.PutDisks.{HasOld, HasTemp, spared_file, elsewhere_then}
 
 -- ---- the put, and a place of the log
 
--- whose put it is and of what, and whether no other seat has an item
+-- whose put it is and of what, and whether no other seat has an item, or holds the folder's lock at its Begin
 pub record Job : Type 0 where
   pub me : Who
   pub root : ℕ
@@ -109,6 +112,7 @@ module _ (j : Job) where
     pub tidy : IsTidy p.state.disk
     pub begun : IsPutItem p.log j.root j.key j.item
     pub elsewhere : j.alone ≡ true → LeavesElsewhere j.root j.key p.base p.state.disk
+    pub free : j.alone ≡ true → IsUnlocked j.me j.root j.key p.state.disk
 
   -- nothing was changed and nothing told
   pub record Looking (p : Place) : Type 0 where
@@ -119,6 +123,21 @@ module _ (j : Job) where
   -- no blob was held for the driver
   abbrev pub Lacks : Option (List ℕ) → Type 0
   Lacks entry = (blob : List ℕ) → FileReads entry j.driver blob → ⊥
+
+  -- it looked once: the entry holds no blob for the driver, and nothing was told
+  pub record Ready (p : Place) : Type 0 where
+    pub entry : now p ≡ old p
+    pub lacks : Lacks (old p)
+    pub quiet : p.told ≡ []
+
+  -- what is known at a look
+  abbrev pub Looks : Look → Place → Type 0
+  Looks First p = Looking p
+  Looks Second p = Ready p
+
+  -- where no other seat has an item, slot 0 has the lock file
+  abbrev pub HasLock : Place → Type 0
+  HasLock p = j.alone ≡ true → p.state.disk.slots j.me 0 ≡ p.state.disk.names (lock_name j.root j.key)
 
   -- the entry may be replaced: it holds no blob for the driver, and what stands in front of it was told
   pub record Going (p : Place) : Type 0 where
@@ -152,24 +171,29 @@ module _ (j : Job) where
   abbrev pub Answered : Answer → Place → Type 0
   Answered answers.Stored p = Replaced p
   Answered answers.Kept p = Held p
+  Answered answers.Busy p = j.alone ≡ true → ⊥
   Answered answers.FilesFault p = Excused p
   Answered answers.NoMemory p = Excused p
   Answered answer p = ⊥
 
   -- what is known in a phase of a machine that has these bytes left to write
   abbrev pub KnowsAt : PutPhase → List ℕ → Place → Type 0
-  KnowsAt (Opening look) bytes p = (bytes ≡ j.item) × Looking p
-  KnowsAt (Measuring look) bytes p = (bytes ≡ j.item) × Looking p × ((whole : List ℕ) × HasEntry p whole)
-  KnowsAt (Reading look n) bytes p = (bytes ≡ j.item) × Looking p × ((whole : List ℕ) × HasEntry p whole × (n ≡ length whole))
-  KnowsAt ReadingFront bytes p = (bytes ≡ j.item) × Looking p × ((whole : List ℕ) × HasEntry p whole) × Lacks (old p)
-  KnowsAt Leaving bytes p = (bytes ≡ j.item) × Looking p
-  KnowsAt (Evicting driver) bytes p = (bytes ≡ j.item) × Looking p × ((whole : List ℕ) × (old p ≡ Some whole) × Fronts whole driver) × Lacks (old p)
+  KnowsAt (Opening look) bytes p = (bytes ≡ j.item) × Looks look p
+  KnowsAt (Measuring look) bytes p = (bytes ≡ j.item) × Looks look p × ((whole : List ℕ) × HasEntry p whole)
+  KnowsAt (Reading look n) bytes p = (bytes ≡ j.item) × Looks look p × ((whole : List ℕ) × HasEntry p whole × (n ≡ length whole))
+  KnowsAt ReadingFront bytes p = (bytes ≡ j.item) × Ready p × ((whole : List ℕ) × HasEntry p whole)
+  KnowsAt Leaving bytes p = (bytes ≡ j.item) × Ready p
+  KnowsAt OpeningLock bytes p = (bytes ≡ j.item) × Ready p
+  KnowsAt (Locking again) bytes p = (bytes ≡ j.item) × Ready p × HasLock p
+  KnowsAt (Pausing again) bytes p = (bytes ≡ j.item) × Ready p × HasLock p
+  KnowsAt (Evicting driver) bytes p = (bytes ≡ j.item) × Ready p × ((whole : List ℕ) × (old p ≡ Some whole) × Fronts whole driver)
   KnowsAt (Making entry) bytes p = (bytes ≡ j.item) × Going p
   KnowsAt (Cutting entry) bytes p = (bytes ≡ j.item) × Going p × ((content : List ℕ) × HasWritten p content)
   KnowsAt (Writing entry) bytes p = (bytes ≡ j.item) × Going p × HasWritten p []
   KnowsAt (Renaming entry) bytes p = Going p × HasWritten p j.item
-  KnowsAt (ClosingEntry answer temp) bytes p = Answered answer p
+  KnowsAt (ClosingEntry answer besides) bytes p = Answered answer p
   KnowsAt (ClosingTemp answer) bytes p = Answered answer p
+  KnowsAt (ClosingLock answer) bytes p = Answered answer p
   KnowsAt (Ended answer) bytes p = Answered answer p
   KnowsAt Evicted bytes p = ⊥
   KnowsAt Spent bytes p = ⊥
@@ -185,6 +209,7 @@ module _ (j : Job) where
     pub told : p'.told ≡ p.told
     pub tidy : IsTidy p'.state.disk
     pub elsewhere : j.alone ≡ true → LeavesElsewhere j.root j.key p.state.disk p'.state.disk
+    pub free : j.alone ≡ true → IsUnlocked j.me j.root j.key p.state.disk → IsUnlocked j.me j.root j.key p'.state.disk
 
   -- and leaves the entry
   pub record Goes (p p' : Place) : Type 0 where
@@ -207,7 +232,8 @@ module _ (j : Job) where
   base_on p p' e b = record {
     tidy = e.tidy;
     begun = subst (λ (log : List LogItem). IsPutItem log j.root j.key j.item) (sym e.log) (put_item_on p.log (e.x ∷ []) j.root j.key j.item b.begun);
-    elsewhere = λ alone. subst (λ (d : Disk). LeavesElsewhere j.root j.key d p'.state.disk) (sym e.base) (λ name other. e.elsewhere alone name other ∙ b.elsewhere alone name other);
+    elsewhere = λ alone. subst (λ (d : Disk). LeavesElsewhere j.root j.key d p'.state.disk) (sym e.base) (elsewhere_then j.root j.key p.base p.state.disk p'.state.disk (b.elsewhere alone) (e.elsewhere alone));
+    free = λ alone. e.free alone (b.free alone);
   }
 
   pub looking_on : (p p' : Place) → Rests p p' → Looking p → Looking p'
@@ -222,6 +248,13 @@ module _ (j : Job) where
 
   lacks_on : (p p' : Place) → Passes p p' → Lacks (old p) → Lacks (old p')
   lacks_on p p' e lacks = subst Lacks (sym (old_on p p' e)) lacks
+
+  pub ready_on : (p p' : Place) → Goes p p' → Ready p → Ready p'
+  ready_on p p' g k = record { entry = g.entry ∙ k.entry ∙ sym (old_on p p' g.passes); lacks = lacks_on p p' g.passes k.lacks; quiet = g.passes.told ∙ k.quiet }
+
+  pub looks_on : (look : Look) (p p' : Place) → Rests p p' → Looks look p → Looks look p'
+  looks_on First p p' r l = looking_on p p' r l
+  looks_on Second p p' r l = ready_on p p' (rests_goes p p' r) l
 
   abbrev Tells : Option (List ℕ) → List LogItem → Type 0
   Tells entry told = TellsReplaced j.me j.root j.key entry told
@@ -263,6 +296,7 @@ module _ (j : Job) where
   pub answered_on : (answer : Answer) (p p' : Place) → Rests p p' → Answered answer p → Answered answer p'
   answered_on answers.Stored p p' r k = replaced_on p p' r k
   answered_on answers.Kept p p' r k = held_on p p' r k
+  answered_on answers.Busy p p' r k = k
   answered_on answers.FilesFault p p' r k = excused_on p p' (rests_goes p p' r) k
   answered_on answers.NoMemory p p' r k = excused_on p p' (rests_goes p p' r) k
   answered_on answer p p' r k = absurd k
@@ -273,6 +307,7 @@ module _ (j : Job) where
   pub record Spares (p p' : Place) : Type 0 where
     pub rests : Rests p p'
     pub slots : (at : ℕ) → p'.state.disk.slots j.me at ≡ p.state.disk.slots j.me at
+    pub among : j.alone ≡ true → ⊥
 
   entry_on : (p p' : Place) (whole : List ℕ) → Spares p p' → HasEntry p whole → HasEntry p' whole
   entry_on p p' whole l h = record { file = h.file; named = l.rests.spared.entry ∙ h.named; slot = l.slots 1 ∙ h.slot; bytes = l.rests.spared.bytes h.file (inl h.named) ∙ h.bytes }
@@ -281,18 +316,22 @@ module _ (j : Job) where
   written_on p p' content l h = record { file = h.file; named = l.rests.spared.temp ∙ h.named; slot = l.slots 3 ∙ h.slot; bytes = l.rests.spared.bytes h.file (inr h.named) ∙ h.bytes }
 
   pub knows_on : (phase : PutPhase) (bytes : List ℕ) (p p' : Place) → Spares p p' → KnowsAt phase bytes p → KnowsAt phase bytes p'
-  knows_on (Opening look) bytes p p' l k = (k.0, looking_on p p' l.rests k.1)
-  knows_on (Measuring look) bytes p p' l k = (k.0, looking_on p p' l.rests k.1, (k.2.0, entry_on p p' k.2.0 l k.2.1))
-  knows_on (Reading look n) bytes p p' l k = (k.0, looking_on p p' l.rests k.1, (k.2.0, entry_on p p' k.2.0 l k.2.1, k.2.2))
-  knows_on ReadingFront bytes p p' l k = (k.0, looking_on p p' l.rests k.1, (k.2.0, entry_on p p' k.2.0 l k.2.1), lacks_on p p' l.rests.passes k.3)
-  knows_on Leaving bytes p p' l k = (k.0, looking_on p p' l.rests k.1)
-  knows_on (Evicting driver) bytes p p' l k = (k.0, looking_on p p' l.rests k.1, (k.2.0, old_on p p' l.rests.passes ∙ k.2.1, k.2.2), lacks_on p p' l.rests.passes k.3)
+  knows_on (Opening look) bytes p p' l k = (k.0, looks_on look p p' l.rests k.1)
+  knows_on (Measuring look) bytes p p' l k = (k.0, looks_on look p p' l.rests k.1, (k.2.0, entry_on p p' k.2.0 l k.2.1))
+  knows_on (Reading look n) bytes p p' l k = (k.0, looks_on look p p' l.rests k.1, (k.2.0, entry_on p p' k.2.0 l k.2.1, k.2.2))
+  knows_on ReadingFront bytes p p' l k = (k.0, ready_on p p' (rests_goes p p' l.rests) k.1, (k.2.0, entry_on p p' k.2.0 l k.2.1))
+  knows_on Leaving bytes p p' l k = (k.0, ready_on p p' (rests_goes p p' l.rests) k.1)
+  knows_on OpeningLock bytes p p' l k = (k.0, ready_on p p' (rests_goes p p' l.rests) k.1)
+  knows_on (Locking again) bytes p p' l k = (k.0, ready_on p p' (rests_goes p p' l.rests) k.1, λ alone. absurd (l.among alone))
+  knows_on (Pausing again) bytes p p' l k = (k.0, ready_on p p' (rests_goes p p' l.rests) k.1, λ alone. absurd (l.among alone))
+  knows_on (Evicting driver) bytes p p' l k = (k.0, ready_on p p' (rests_goes p p' l.rests) k.1, (k.2.0, old_on p p' l.rests.passes ∙ k.2.1, k.2.2))
   knows_on (Making entry) bytes p p' l k = (k.0, going_on p p' (rests_goes p p' l.rests) k.1)
   knows_on (Cutting entry) bytes p p' l k = (k.0, going_on p p' (rests_goes p p' l.rests) k.1, (k.2.0, written_on p p' k.2.0 l k.2.1))
   knows_on (Writing entry) bytes p p' l k = (k.0, going_on p p' (rests_goes p p' l.rests) k.1, written_on p p' [] l k.2)
   knows_on (Renaming entry) bytes p p' l k = (going_on p p' (rests_goes p p' l.rests) k.0, written_on p p' j.item l k.1)
-  knows_on (ClosingEntry answer temp) bytes p p' l k = answered_on answer p p' l.rests k
+  knows_on (ClosingEntry answer besides) bytes p p' l k = answered_on answer p p' l.rests k
   knows_on (ClosingTemp answer) bytes p p' l k = answered_on answer p p' l.rests k
+  knows_on (ClosingLock answer) bytes p p' l k = answered_on answer p p' l.rests k
   knows_on (Ended answer) bytes p p' l k = answered_on answer p p' l.rests k
   knows_on Evicted bytes p p' l k = k
   knows_on Spent bytes p p' l k = k

@@ -14,6 +14,8 @@ use Rattle.file_log.proofs.Logs.{some_last}
 abbrev pub IsPlain : Call → Type 0
 IsPlain (calls.OpenOld slot name) = Unit {0}
 IsPlain (calls.OpenNew slot name) = Unit {0}
+IsPlain (calls.TryLock slot) = Unit {0}
+IsPlain calls.Pause = Unit {0}
 IsPlain (calls.Length slot) = Unit {0}
 IsPlain (calls.ReadAt slot at n) = Unit {0}
 IsPlain (calls.Cut slot n) = Unit {0}
@@ -24,6 +26,8 @@ IsPlain call = ⊥
 none_done : (me : Who) (call : Call) → IsPlain call → Makes me true call replies.Done [] → ⊥
 none_done me (calls.OpenOld slot name) plain ms = absurd cc
 none_done me (calls.OpenNew slot name) plain ms = absurd cc
+none_done me (calls.TryLock slot) plain ms = absurd cc
+none_done me calls.Pause plain ms = absurd cc
 none_done me (calls.Length slot) plain ms = absurd cc
 none_done me (calls.ReadAt slot at n) plain ms = absurd cc
 none_done me (calls.Cut slot n) plain ms = absurd cc
@@ -37,6 +41,8 @@ some_items before x e = subst IsSomeItem (sym e) (some_last before x)
 none_refused : (me : Who) (call : Call) → IsPlain call → Makes me true call replies.NoMemory [] → ⊥
 none_refused me (calls.OpenOld slot name) plain ms = some_items [] _ ms.1
 none_refused me (calls.OpenNew slot name) plain ms = some_items [] _ ms.1
+none_refused me (calls.TryLock slot) plain ms = some_items [] _ ms.1
+none_refused me calls.Pause plain ms = some_items [] _ ms.1
 none_refused me (calls.Length slot) plain ms = some_items [] _ ms.1
 none_refused me (calls.ReadAt slot at n) plain ms = some_items [] _ ms.1
 none_refused me (calls.Cut slot n) plain ms = some_items [] _ ms.1

@@ -1,5 +1,5 @@
 -- What a put does to the disk that was not begun, or that made no call: nothing.
-use Rattle.std.proofs.Common.{◌≡◌, inl, ℕ, Bool, true, false, cond, List, [], ◌∷◌, ◌++◌, filter, refl, sym, ap, subst, ◌∙◌}
+use Rattle.std.proofs.Common.{◌≡◌, inl, ℕ, Bool, true, false, cond, List, [], ◌∷◌, filter, refl, sym, ap, subst, ◌∙◌}
 use Rattle.std.specs.List.{AllByRecursion}
 use Rattle.cache_types.specs.declared.answer.Answer.{Answer}
 use Rattle.cache_types.specs.declared.answer.Answer.TheVariants.{NoMemory}
@@ -17,12 +17,14 @@ use Rattle.file_log.specs.Log.{History, with_items, own, is_own}
 use Rattle.file_log.specs.State.{State, disk_of}
 use Rattle.folder_store.specs.Entries.{with_item, EntriesAreWhole, IsWholeAfter, ReplacesTold, OthersSpare}
 use Rattle.folder_store.specs.Put.{PutsAlone, is_evict}
+use Rattle.folder_store.specs.Locking.{lock_name, IsUnlocked}
+use Rattle.folder_store.proofs.PutDisks.{keeps_as}
 use Rattle.folder_store.proofs.PutKnown.{put_item_on}
 use Rattle.folder_store.proofs.PutPlaces.{state_then}
 
 -- what the new items of a put do to the disk, alone and among others
 pub record OnDisk (me : Who) (root : ℕ) (driver : DriverKeys) (key : Key) (blob : List ℕ) (answer : Answer) (h : History) (news : List LogItem) : Type 0 where
-  pub alone : own me news ≡ news → PutsAlone me root driver key blob answer (disk_of h) (disk_of (with_items h news)) (own me news)
+  pub alone : own me news ≡ news → IsUnlocked me root key (disk_of h) → PutsAlone me root driver key blob answer (disk_of h) (disk_of (with_items h news)) (own me news)
   pub whole : All with_item (OthersSpare me root key) h news → EntriesAreWhole h → Keeps with_item IsWholeAfter me h news
   pub tells_first : All with_item (OthersSpare me root key) h news → Keeps with_item ReplacesTold me h news
 
@@ -62,13 +64,16 @@ module _ (me : Who) where
     same_disk made is same alone = ap (λ (l : List LogItem). disk_of (with_items h l)) (sym alone ∙ is) ∙ same
 
     -- nothing is told, and no file is changed
-    unchanged : (made : List LogItem) → own me news ≡ made → disk_of (with_items h made) ≡ disk_of h → filter is_evict made ≡ [] → own me news ≡ news
+    unchanged : (made : List LogItem) → own me news ≡ made → disk_of (with_items h made) ≡ disk_of h → filter is_evict made ≡ [] → own me news ≡ news → IsUnlocked me root key (disk_of h)
         → PutsAlone me root driver key blob NoMemory (disk_of h) (disk_of (with_items h news)) (own me news)
-    unchanged made is same none alone =
+    unchanged made is same none alone free =
         let d = same_disk made is same alone in
         record {
           leaves = ap (λ (e : Disk). file_of e (Entry root key)) d;
-          elsewhere = λ name apart. ap (λ (e : Disk). file_of e name) d;
+          elsewhere = record {
+            names = λ name apart. ap (λ (e : Disk). file_of e name) d;
+            lock = keeps_as (file_of (disk_of h) (lock_name root key)) (file_of (disk_of (with_items h news)) (lock_name root key)) (ap (λ (e : Disk). file_of e (lock_name root key)) d);
+          };
           evicts = inl (ap (filter is_evict) is ∙ none);
         }
 

@@ -1,5 +1,5 @@
 -- Which answer a put ends with, that a fault is one that its log tells, and that want of memory is one once a file was changed.
-use Rattle.std.proofs.Common.{◌≡◌, inl, inr, ℕ, Bool, true, false, cond, nat_lt, ◌||◌, List, [], ◌∷◌, ◌++◌, refl, sym, ap, subst, ◌∙◌}
+use Rattle.std.proofs.Common.{◌≡◌, inl, inr, ℕ, ◌-◌, Bool, true, false, cond, nat_eq, nat_lt, ◌||◌, List, [], ◌∷◌, ◌++◌, refl, sym, ap, subst, ◌∙◌}
 use Rattle.std.specs.List.{list_any}
 use Rattle.std.proofs.lemmas.List.Folds.{list_any-append}
 use Rattle.cache_types.specs.declared.answer.Answer.{Answer}
@@ -19,10 +19,12 @@ use Rattle.files_api.specs.declared.machine.Step.{Step}
 use Rattle.files_api.specs.declared.machine.Step.TheVariants.{Ask, Done}
 use Rattle.files_api.specs.Drive.{Runs, items_of_all, SomeFailed}
 use Rattle.folder_store.specs.declared.put.FolderPut.{FolderPut}
-use Rattle.folder_store.specs.declared.put.Look.{Look}
-use Rattle.folder_store.specs.declared.put.Look.TheVariants.{First, Second}
-use Rattle.folder_store.specs.declared.put.PutPhase.{PutPhase}
-use Rattle.folder_store.specs.declared.put.PutPhase.TheVariants.{Opening, Measuring, Reading, ReadingFront, Leaving, Evicting, Evicted, Making, Cutting, Writing, Renaming, ClosingEntry, ClosingTemp, Ended, Spent}
+use Rattle.folder_store.specs.declared.put_phase.Besides.{Besides}
+use Rattle.folder_store.specs.declared.put_phase.Besides.TheVariants.{Nothing, Lock, LockAndTemp}
+use Rattle.folder_store.specs.declared.put_phase.Look.{Look}
+use Rattle.folder_store.specs.declared.put_phase.Look.TheVariants.{First, Second}
+use Rattle.folder_store.specs.declared.put_phase.PutPhase.{PutPhase}
+use Rattle.folder_store.specs.declared.put_phase.PutPhase.TheVariants.{Opening, Measuring, Reading, ReadingFront, Leaving, OpeningLock, Locking, Pausing, Evicting, Evicted, Making, Cutting, Writing, Renaming, ClosingEntry, ClosingTemp, ClosingLock, Ended, Spent}
 use Rattle.folder_store.specs.Put.{IsPutAnswer, is_change, is_want}
 use Rattle.folder_store.specs.PutPhases.{asks_put, asks_put_in, asked_put, after_put_asking, too_long, closing, Fronted, Judged, NextPut, FedPut}
 use Rattle.folder_store.proofs.Items.{IsNoNote, IsQuiet, any_fault, any_want, any_change, failures_told, tests_faults, tests_wants, refused_no_fault, refused_wants, quiet_changes}
@@ -56,17 +58,19 @@ stage (Making entry) = Late
 stage (Cutting entry) = Late
 stage (Writing entry) = Late
 stage (Renaming entry) = Late
-stage (ClosingEntry answer temp) = Settled answer
+stage (ClosingEntry answer besides) = Settled answer
 stage (ClosingTemp answer) = Settled answer
+stage (ClosingLock answer) = Settled answer
 stage (Ended answer) = Settled answer
 stage Evicted = Settled answers.NoMemory
 stage Spent = Settled answers.NoMemory
 stage p = Early
 
-stage_closing : (answer : Answer) (entry temp : Bool) → stage (closing answer entry temp) ≡ Settled answer
-stage_closing answer true temp = refl
-stage_closing answer false true = refl
-stage_closing answer false false = refl
+stage_closing : (answer : Answer) (entry : Bool) (besides : Besides) → stage (closing answer entry besides) ≡ Settled answer
+stage_closing answer true besides = refl
+stage_closing answer false Nothing = refl
+stage_closing answer false Lock = refl
+stage_closing answer false LockAndTemp = refl
 
 -- what it asks then
 abbrev AsksAt : Stage → Step → Type 0
@@ -86,6 +90,7 @@ asks_at root key item p = tt
 abbrev IsFine : Answer → Type 0
 IsFine answers.Stored = Unit {0}
 IsFine answers.Kept = Unit {0}
+IsFine answers.Busy = Unit {0}
 IsFine answer = ⊥
 
 -- where a reply leads that is no failure
@@ -118,6 +123,10 @@ measured First length false = tt
 measured Second length true = tt
 measured Second length false = tt
 
+held : (again : ℕ) (b : Bool) → LeadsOn Early (stage (cond b (ClosingLock answers.Busy) (Pausing (again - 1))))
+held again true = tt
+held again false = tt
+
 leads : (root : ℕ) (key : Key) (item : List ℕ) (driver : DriverKeys) (p : PutPhase) (reply : Reply) (q : PutPhase) → AnswersIn (asks_put_in root key item p) reply → NextPut driver (after_put_asking p) reply q → Leads (stage p) reply (stage q)
 leads root key item driver (Opening First) replies.Done q fits e = rw e tt
 leads root key item driver (Opening First) replies.Missing q fits e = rw e tt
@@ -143,30 +152,45 @@ leads root key item driver ReadingFront replies.NoMemory q fits e = rw e refl
 leads root key item driver ReadingFront reply q fits e = absurd fits
 leads root key item driver Leaving replies.Done q fits e = rw e tt
 leads root key item driver Leaving reply q fits e = absurd fits
+leads root key item driver OpeningLock replies.Done q fits e = rw e tt
+leads root key item driver OpeningLock replies.Failed q fits e = rw e refl
+leads root key item driver OpeningLock replies.NoMemory q fits e = rw e refl
+leads root key item driver OpeningLock reply q fits e = absurd fits
+leads root key item driver (Locking again) replies.Done q fits e = rw e tt
+leads root key item driver (Locking again) replies.Held q fits e = rw e (held again (nat_eq again 0))
+leads root key item driver (Locking again) replies.Failed q fits e = rw e refl
+leads root key item driver (Locking again) replies.NoMemory q fits e = rw e refl
+leads root key item driver (Locking again) reply q fits e = absurd fits
+leads root key item driver (Pausing again) replies.Done q fits e = rw e tt
+leads root key item driver (Pausing again) replies.Failed q fits e = rw e refl
+leads root key item driver (Pausing again) replies.NoMemory q fits e = rw e refl
+leads root key item driver (Pausing again) reply q fits e = absurd fits
 leads root key item driver (Evicting driver') replies.Done q fits e = rw e tt
 leads root key item driver (Evicting driver') replies.NoMemory q fits e = rw e refl
 leads root key item driver (Evicting driver') reply q fits e = absurd fits
 leads root key item driver Evicted reply q fits e = absurd fits
 leads root key item driver (Making entry) replies.Done q fits e = rw e tt
-leads root key item driver (Making entry) replies.Failed q fits e = rw (e, stage_closing answers.FilesFault entry false) refl
-leads root key item driver (Making entry) replies.NoMemory q fits e = rw (e, stage_closing answers.NoMemory entry false) refl
+leads root key item driver (Making entry) replies.Failed q fits e = rw (e, stage_closing answers.FilesFault entry Lock) refl
+leads root key item driver (Making entry) replies.NoMemory q fits e = rw (e, stage_closing answers.NoMemory entry Lock) refl
 leads root key item driver (Making entry) reply q fits e = absurd fits
 leads root key item driver (Cutting entry) replies.Done q fits e = rw e tt
-leads root key item driver (Cutting entry) replies.Failed q fits e = rw (e, stage_closing answers.FilesFault entry true) refl
-leads root key item driver (Cutting entry) replies.NoMemory q fits e = rw (e, stage_closing answers.NoMemory entry true) refl
+leads root key item driver (Cutting entry) replies.Failed q fits e = rw (e, stage_closing answers.FilesFault entry LockAndTemp) refl
+leads root key item driver (Cutting entry) replies.NoMemory q fits e = rw (e, stage_closing answers.NoMemory entry LockAndTemp) refl
 leads root key item driver (Cutting entry) reply q fits e = absurd fits
 leads root key item driver (Writing entry) replies.Done q fits e = rw e tt
-leads root key item driver (Writing entry) replies.Failed q fits e = rw (e, stage_closing answers.FilesFault entry true) refl
-leads root key item driver (Writing entry) replies.NoMemory q fits e = rw (e, stage_closing answers.NoMemory entry true) refl
+leads root key item driver (Writing entry) replies.Failed q fits e = rw (e, stage_closing answers.FilesFault entry LockAndTemp) refl
+leads root key item driver (Writing entry) replies.NoMemory q fits e = rw (e, stage_closing answers.NoMemory entry LockAndTemp) refl
 leads root key item driver (Writing entry) reply q fits e = absurd fits
-leads root key item driver (Renaming entry) replies.Done q fits e = rw (e, stage_closing answers.Stored entry true) tt
-leads root key item driver (Renaming entry) replies.Failed q fits e = rw (e, stage_closing answers.FilesFault entry true) refl
-leads root key item driver (Renaming entry) replies.NoMemory q fits e = rw (e, stage_closing answers.NoMemory entry true) refl
+leads root key item driver (Renaming entry) replies.Done q fits e = rw (e, stage_closing answers.Stored entry LockAndTemp) tt
+leads root key item driver (Renaming entry) replies.Failed q fits e = rw (e, stage_closing answers.FilesFault entry LockAndTemp) refl
+leads root key item driver (Renaming entry) replies.NoMemory q fits e = rw (e, stage_closing answers.NoMemory entry LockAndTemp) refl
 leads root key item driver (Renaming entry) reply q fits e = absurd fits
-leads root key item driver (ClosingEntry answer temp) replies.Done q fits e = rw (e, stage_closing answer false temp) refl
-leads root key item driver (ClosingEntry answer temp) reply q fits e = absurd fits
+leads root key item driver (ClosingEntry answer besides) replies.Done q fits e = rw (e, stage_closing answer false besides) refl
+leads root key item driver (ClosingEntry answer besides) reply q fits e = absurd fits
 leads root key item driver (ClosingTemp answer) replies.Done q fits e = rw e refl
 leads root key item driver (ClosingTemp answer) reply q fits e = absurd fits
+leads root key item driver (ClosingLock answer) replies.Done q fits e = rw e refl
+leads root key item driver (ClosingLock answer) reply q fits e = absurd fits
 leads root key item driver (Ended answer) reply q fits e = absurd fits
 leads root key item driver Spent reply q fits e = absurd fits
 
@@ -180,6 +204,7 @@ Ends (Settled given) answer made xs = Settles given answer made
 fine_kind : (answer : Answer) → IsFine answer → IsPutAnswer answer
 fine_kind answers.Stored fine = tt
 fine_kind answers.Kept fine = tt
+fine_kind answers.Busy fine = tt
 fine_kind answer fine = absurd fine
 
 close_tells : (me : Who) (given : Answer) (call : Call) (reply : Reply) (made : List LogItem) → AsksAt (Settled given) (Ask call) → Answers true call reply → Makes me true call reply made → (any_fault made ≡ false) × (any_change made ≡ false)

@@ -1,5 +1,5 @@
 -- What each own item of a put keeps: entries are whole, none is replaced before that was told, and the End says what is left.
-use Rattle.std.proofs.Common.{◌≡◌, ◌⊎◌, inl, inr, ℕ, Bool, true, false, List, [], ◌∷◌, ◌++◌, Some, refl, sym, ap, ◌∙◌, subst}
+use Rattle.std.proofs.Common.{◌≡◌, ◌⊎◌, inl, inr, ℕ, Bool, true, false, List, [], ◌∷◌, ◌++◌, Option, Some, None, refl, sym, ap, ◌∙◌, subst}
 use Rattle.cache_types.specs.Driver.{DriverKeys, Fronts}
 use Rattle.cache_types.specs.Names.{same_name}
 use Rattle.cache_types.specs.declared.key.Key.{Key}
@@ -10,13 +10,17 @@ use Rattle.file_log.specs.declared.call.Call.TheVariants.{Rename}
 use Rattle.file_log.specs.declared.item.LogItem.{LogItem}
 use Rattle.file_log.specs.declared.item.LogItem.TheVariants as items
 use Rattle.file_log.specs.declared.reply.Reply.TheVariants.{Done}
-use Rattle.file_log.specs.Disk.{Disk, file_of}
+use Rattle.file_log.specs.Disk.{Disk, file_of, lock_in}
 use Rattle.file_log.specs.Effect.{applied}
+use Rattle.file_log.specs.Legal.{is_held}
+use Rattle.file_log.specs.Log.{is_own}
 use Rattle.file_log.specs.Operation.{IsStill}
+use Rattle.disk_laws.proofs.Locks.{own_locks}
 use Rattle.disk_laws.proofs.Tidiness.{item_tidy}
 use Rattle.folder_store.specs.Entries.{folder_of, IsPutItem, is_end_of, EvictIsOpen}
+use Rattle.folder_store.specs.Locking.{lock_name, IsUnlocked}
 use Rattle.folder_store.specs.Put.{Leaves, LeavesElsewhere, TellsEvicts}
-use Rattle.folder_store.proofs.PutDisks.{same_bytes, Apart, still_file, still_spared, entry_no_temp, apart_elsewhere, apart_entry}
+use Rattle.folder_store.proofs.PutDisks.{same_bytes, Apart, still_file, still_elsewhere, still_spared, entry_elsewhere, lock_no_temp, apart_elsewhere, apart_entry}
 use Rattle.folder_store.proofs.PutKnown.{Job, Place, step, base_after, told_after, put_item_on, Base, Passes, Goes, Rests, base_on, old}
 
 abbrev pub AreWhole : List LogItem → Disk → Type 0
@@ -69,7 +73,19 @@ module _ (j : Job) where
           let is : Entry root key ≡ entry = (same_name_decides (Entry root key) entry).0 same in
           let i : IsPutItem log j.root j.key bytes = at_entry (ap (file_of d') (sym is) ∙ e) here in
           subst (λ (k : Key). IsPutItem log root k bytes) (key_is is) (subst (λ (r : ℕ). IsPutItem log r j.key bytes) (root_is is) i)
-      by_test false other = whole root key bytes (sym (elsewhere (Entry root key) (other, entry_no_temp root j.root key j.key)) ∙ e)
+      by_test false other = whole root key bytes (sym (elsewhere.names (Entry root key) (entry_elsewhere j.root root j.key key other)) ∙ e)
+
+  -- ---- an own item gives no other seat the lock
+
+  free_in : (d d' : Disk) (file : Option ℕ) → ((f : ℕ) → is_held j.me (d.locks f) ≡ false → is_held j.me (d'.locks f) ≡ false) → is_held j.me (lock_in d file) ≡ false → is_held j.me (lock_in d' file) ≡ false
+  free_in d d' None locks free = refl
+  free_in d d' (Some f) locks free = locks f free
+
+  -- where the lock file's name stays
+  pub stays_free : (d : Disk) (x : LogItem) → is_own j.me x ≡ true → (applied d x).names (lock_name j.root j.key) ≡ d.names (lock_name j.root j.key) → IsUnlocked j.me j.root j.key d → IsUnlocked j.me j.root j.key (applied d x)
+  stays_free d x mine same free =
+      let d' : Disk = applied d x in
+      ap (λ (file : Option ℕ). is_held j.me (lock_in d' file)) same ∙ free_in d d' (d.names (lock_name j.root j.key)) (λ f. own_locks j.me d x f mine) free
 
   -- ---- an own item that changes no name and no file
 
@@ -78,8 +94,8 @@ module _ (j : Job) where
     pub base : Base j (step j.me p x)
     pub rests : Rests j p (step j.me p x)
 
-  pub quiet : (p : Place) (x : LogItem) → Base j p → is_end_of j.me x ≡ false → base_after j.me p.base p.state.disk x ≡ p.base → told_after j.me p.told x ≡ p.told → Replaces p x → Ends p x → IsStill p.state.disk (applied p.state.disk x) → Quiet p x
-  quiet p x b no_end same told replaces ends still =
+  pub quiet : (p : Place) (x : LogItem) → Base j p → is_own j.me x ≡ true → is_end_of j.me x ≡ false → base_after j.me p.base p.state.disk x ≡ p.base → told_after j.me p.told x ≡ p.told → Replaces p x → Ends p x → IsStill p.state.disk (applied p.state.disk x) → Quiet p x
+  quiet p x b mine no_end same told replaces ends still =
       let d' : Disk = applied p.state.disk x in
       let passes : Passes j p (step j.me p x) = record {
         x = x;
@@ -88,7 +104,8 @@ module _ (j : Job) where
         base = same;
         told = told;
         tidy = item_tidy p.state.disk x b.tidy;
-        elsewhere = λ alone name other. still_file p.state.disk d' name still;
+        elsewhere = λ alone. still_elsewhere p.state.disk d' j.root j.key still;
+        free = λ alone. stays_free p.state.disk x mine (still.names (lock_name j.root j.key));
       } in
       record {
         right = record { whole = whole_still p.log p.state.disk d' x still; replaces = replaces; ends = ends };
@@ -103,11 +120,11 @@ module _ (j : Job) where
     pub base : Base j (step j.me p x)
     pub goes : Goes j p (step j.me p x)
 
-  pub changed : (p : Place) (x : LogItem) → Base j p → is_end_of j.me x ≡ false → base_after j.me p.base p.state.disk x ≡ p.base → told_after j.me p.told x ≡ p.told → Replaces p x → Ends p x → Apart j.root j.key p.state.disk (applied p.state.disk x) → Changed p x
-  changed p x b no_end same told replaces ends apart =
+  -- or that changes at most names elsewhere
+  pub changed_by : (p : Place) (x : LogItem) → Base j p → is_end_of j.me x ≡ false → base_after j.me p.base p.state.disk x ≡ p.base → told_after j.me p.told x ≡ p.told → Replaces p x → Ends p x
+      → LeavesElsewhere j.root j.key p.state.disk (applied p.state.disk x) → file_of (applied p.state.disk x) entry ≡ file_of p.state.disk entry → (IsUnlocked j.me j.root j.key p.state.disk → IsUnlocked j.me j.root j.key (applied p.state.disk x)) → Changed p x
+  changed_by p x b no_end same told replaces ends elsewhere here free =
       let d' : Disk = applied p.state.disk x in
-      let elsewhere = apart_elsewhere j.me j.root j.key p.state.disk d' apart in
-      let here = apart_entry j.me j.root j.key p.state.disk d' apart in
       let passes : Passes j p (step j.me p x) = record {
         x = x;
         log = refl;
@@ -116,9 +133,16 @@ module _ (j : Job) where
         told = told;
         tidy = item_tidy p.state.disk x b.tidy;
         elsewhere = λ alone. elsewhere;
+        free = λ alone. free;
       } in
       record {
         right = record { whole = whole_then p.log p.state.disk d' x elsewhere (inl here) b.begun; replaces = replaces; ends = ends };
         base = base_on j p (step j.me p x) passes b;
         goes = record { passes = passes; entry = here };
       }
+
+  pub changed : (p : Place) (x : LogItem) → Base j p → is_own j.me x ≡ true → is_end_of j.me x ≡ false → base_after j.me p.base p.state.disk x ≡ p.base → told_after j.me p.told x ≡ p.told → Replaces p x → Ends p x → Apart j.root j.key p.state.disk (applied p.state.disk x) → Changed p x
+  changed p x b mine no_end same told replaces ends apart =
+      let d' : Disk = applied p.state.disk x in
+      changed_by p x b no_end same told replaces ends (apart_elsewhere j.me j.root j.key p.state.disk d' apart) (apart_entry j.me j.root j.key p.state.disk d' apart)
+      (stays_free p.state.disk x mine (apart.names (lock_name j.root j.key) (lock_no_temp j.root j.root j.key j.key)))

@@ -7,12 +7,15 @@ use Rattle.file_log.specs.declared.reply.Reply.{Reply}
 use Rattle.file_log.specs.declared.reply.Reply.TheVariants as replies
 use Rattle.file_log.specs.Exchange.{Answers, Makes}
 use Rattle.file_log.specs.Legal.{IsLegal}
+use Rattle.file_log.proofs.All.{seat_self}
 use Rattle.files_api.specs.declared.machine.Step.{Step}
 use Rattle.files_api.specs.declared.machine.Step.TheVariants as steps
-use Rattle.folder_store.specs.declared.put.PutPhase.{PutPhase}
+use Rattle.folder_store.specs.declared.put_phase.PutPhase.{PutPhase}
 use Rattle.folder_store.specs.Phases.{fault}
 use Rattle.folder_store.specs.PutPhases.{asks_put_in, after_put_asking, item_after, closing, NextPut}
-use Rattle.folder_store.proofs.PutKnown.{Job, Place, step, Base, Looking, Going, Excused, Answered, KnowsAt, rests_goes, excused_on}
+use Rattle.folder_store.specs.declared.put_phase.Besides.{Besides}
+use Rattle.folder_store.specs.declared.put_phase.Besides.TheVariants.{Nothing, Lock, LockAndTemp}
+use Rattle.folder_store.proofs.PutKnown.{Job, Place, step, Base, Ready, Going, Excused, Answered, KnowsAt, rests_goes, excused_on}
 use Rattle.folder_store.proofs.PutRules.{IsRight, Quiet, quiet}
 
 -- ---- a step
@@ -55,17 +58,18 @@ module _ (j : Job) where
   pub into : (q : PutPhase) (bytes : List ℕ) (p : Place) → KnowsAt j q bytes p → (next : PutPhase) → next ≡ q → KnowsAt j next bytes p
   into q bytes p k next e = subst (λ (phase : PutPhase). KnowsAt j phase bytes p) (sym e) k
 
-  pub closing_knows : (answer : Answer) (entry temp : Bool) (bytes : List ℕ) (p : Place) → Answered j answer p → KnowsAt j (closing answer entry temp) bytes p
-  closing_knows answer true temp bytes p k = k
-  closing_knows answer false true bytes p k = k
-  closing_knows answer false false bytes p k = k
+  pub closing_knows : (answer : Answer) (entry : Bool) (besides : Besides) (bytes : List ℕ) (p : Place) → Answered j answer p → KnowsAt j (closing answer entry besides) bytes p
+  closing_knows answer true besides bytes p k = k
+  closing_knows answer false Nothing bytes p k = k
+  closing_knows answer false Lock bytes p k = k
+  closing_knows answer false LockAndTemp bytes p k = k
 
   pub fault_answered : (reply : Reply) (p : Place) → Excused j p → Answered j (fault reply) p
   fault_answered replies.NoMemory p k = k
   fault_answered reply p k = k
 
-  pub looking_excused : (p : Place) → Looking j p → Excused j p
-  looking_excused p l = record { entry = l.entry; told = inl l.quiet }
+  pub ready_excused : (p : Place) → Ready j p → Excused j p
+  ready_excused p r = record { entry = r.entry; told = inl r.quiet }
 
   pub going_excused : (p : Place) → Going j p → Excused j p
   going_excused p g = record { entry = g.entry; told = inr g.replaced }
@@ -73,19 +77,12 @@ module _ (j : Job) where
   -- ---- a call that failed
 
   pub failed : (memory : Bool) (p : Place) → Base j p → Quiet j p (Failed j.me memory)
-  failed memory p b = quiet j p (Failed j.me memory) b refl refl refl tt tt (record { names = λ name. refl; files = λ f. refl })
+  failed memory p b = quiet j p (Failed j.me memory) b (seat_self j.me) refl refl refl tt tt (record { names = λ name. refl; files = λ f. refl })
 
   -- it leads to the end, with the entry as it was
-  pub looking_fails : (memory : Bool) (phase : PutPhase) (bytes : List ℕ) (reply : Reply) (p : Place) → Base j p → Looking j p
+  pub fails : (memory : Bool) (phase : PutPhase) (bytes : List ℕ) (reply : Reply) (p : Place) → Base j p → Excused j p
       → (((p' : Place) → Answered j (fault reply) p' → Follows phase bytes reply p') → Steps phase bytes reply p (Failed j.me memory) [])
-  looking_fails memory phase bytes reply p b l follows = λ legal.
+  fails memory phase bytes reply p b k follows = λ legal.
       let f = failed memory p b in
       let p' : Place = step j.me p (Failed j.me memory) in
-      record { right = f.right; base = f.base; last = refl; follows = follows p' (fault_answered reply p' (excused_on j p p' (rests_goes j p p' f.rests) (looking_excused p l))) }
-
-  pub going_fails : (memory : Bool) (phase : PutPhase) (bytes : List ℕ) (reply : Reply) (p : Place) → Base j p → Going j p
-      → (((p' : Place) → Answered j (fault reply) p' → Follows phase bytes reply p') → Steps phase bytes reply p (Failed j.me memory) [])
-  going_fails memory phase bytes reply p b g follows = λ legal.
-      let f = failed memory p b in
-      let p' : Place = step j.me p (Failed j.me memory) in
-      record { right = f.right; base = f.base; last = refl; follows = follows p' (fault_answered reply p' (excused_on j p p' (rests_goes j p p' f.rests) (going_excused p g))) }
+      record { right = f.right; base = f.base; last = refl; follows = follows p' (fault_answered reply p' (excused_on j p p' (rests_goes j p p' f.rests) k)) }

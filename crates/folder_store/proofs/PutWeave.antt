@@ -34,19 +34,23 @@ use Rattle.files_api.proofs.Weave.{Inductive, Outer, weave_operation}
 use Rattle.item_frame.specs.Item.{Reads}
 use Rattle.item_frame.proofs.Laws.{Reads-from_as}
 use Rattle.folder_store.specs.declared.put.FolderPut.{FolderPut}
-use Rattle.folder_store.specs.declared.put.Look.TheVariants.{First}
-use Rattle.folder_store.specs.declared.put.PutPhase.{PutPhase}
-use Rattle.folder_store.specs.declared.put.PutPhase.TheVariants.{Opening, Measuring, Reading, ReadingFront, Leaving, Evicting, Evicted, Making, Cutting, Writing, Renaming, ClosingEntry, ClosingTemp, Ended, Spent}
+use Rattle.folder_store.specs.declared.put_phase.Besides.TheVariants.{Lock}
+use Rattle.folder_store.specs.declared.put_phase.Look.TheVariants.{First}
+use Rattle.folder_store.specs.declared.put_phase.PutPhase.{PutPhase}
+use Rattle.folder_store.specs.declared.put_phase.PutPhase.TheVariants.{Opening, Measuring, Reading, ReadingFront, Leaving, OpeningLock, Locking, Pausing, Evicting, Evicted, Making, Cutting, Writing, Renaming, ClosingEntry, ClosingTemp, ClosingLock, Ended, Spent}
 use Rattle.folder_store.specs.Entries.{folder_of, IsPutItem, IsSpared}
 use Rattle.folder_store.specs.Holds.{FileReads}
-use Rattle.folder_store.specs.Put.{AsksPut, Leaves, TellsEvicts}
+use Rattle.folder_store.specs.Locking.{IsUnlocked}
+use Rattle.folder_store.specs.Put.{AsksPut, Leaves, LeavesElsewhere, TellsEvicts}
 use Rattle.folder_store.specs.PutPhases.{IsNewPut, asks_put, asks_put_in, asked_put, after_put_asking, item_after, FedPut, NextPut}
 use Rattle.folder_store.proofs.PutKnown.{Job, Place, step, other_base, other_told, other_end, Base, base_on, Looking, Answered, KnowsAt, Spares, knows_on, written_on, going_on, rests_goes, old}
 use Rattle.folder_store.proofs.PutRules.{IsRight, whole_still}
-use Rattle.folder_store.proofs.PutSteps.{AnswersIn, asks_at, MakesIn, Follows, Stepped, into, looking_excused}
+use Rattle.folder_store.proofs.PutSteps.{AnswersIn, asks_at, MakesIn, Follows, Stepped, into, ready_excused}
 use Rattle.folder_store.proofs.PutMakes.{IsPlain, none_made}
+use Rattle.folder_store.proofs.PutDisks.{still_elsewhere}
+use Rattle.folder_store.proofs.PutLocking.{opening_lock, locking, pausing}
 use Rattle.folder_store.proofs.PutLooks.{opening, measuring, reading, reading_front, leaving}
-use Rattle.folder_store.proofs.PutChanges.{evicting, making, cutting, renaming, closing_entry, closing_temp}
+use Rattle.folder_store.proofs.PutChanges.{evicting, making, cutting, renaming, closing_entry, closing_temp, closing_lock}
 use Rattle.folder_store.proofs.PutWrites.{Doing, Moved, writing, writing_starts}
 use Rattle.disk_laws.proofs.Slots.{other_slots}
 use Rattle.folder_store.proofs.Still.{all_as_own}
@@ -85,7 +89,7 @@ module _ (j : Job) (request : Request) (fits : IsDriver j.driver) (filled : nat_
 
   starts : (phase : PutPhase) (bytes : List ℕ) (reply : Reply) (made : List LogItem) (p : Place) → KnowsAt j phase bytes p → AnswersIn (asks_at j phase bytes) reply → MakesIn j (asks_at j phase bytes) reply made → Doing j phase bytes reply made p
   starts (Writing entry) bytes reply made p k a ms = writing_starts j entry bytes reply made p filled k a ms
-  starts (Evicting driver) bytes replies.NoMemory [] p k a ms = into j (ClosingEntry answers.NoMemory false) bytes p (looking_excused j p k.1)
+  starts (Evicting driver) bytes replies.NoMemory [] p k a ms = into j (ClosingEntry answers.NoMemory Lock) bytes p (ready_excused j p k.1)
   starts (Evicting driver) bytes replies.Done [] p k a ms = absurd cc
   starts (Evicting driver) bytes reply [] p k a ms = absurd a
   starts (Opening look) bytes reply [] p k a ms = absurd (none_asked (asks_at j (Opening look) bytes) reply tt ms)
@@ -93,11 +97,15 @@ module _ (j : Job) (request : Request) (fits : IsDriver j.driver) (filled : nat_
   starts (Reading look n) bytes reply [] p k a ms = absurd (none_asked (asks_at j (Reading look n) bytes) reply tt ms)
   starts ReadingFront bytes reply [] p k a ms = absurd (none_asked (asks_at j ReadingFront bytes) reply tt ms)
   starts Leaving bytes reply [] p k a ms = absurd (none_asked (asks_at j Leaving bytes) reply tt ms)
+  starts OpeningLock bytes reply [] p k a ms = absurd (none_asked (asks_at j OpeningLock bytes) reply tt ms)
+  starts (Locking again) bytes reply [] p k a ms = absurd (none_asked (asks_at j (Locking again) bytes) reply tt ms)
+  starts (Pausing again) bytes reply [] p k a ms = absurd (none_asked (asks_at j (Pausing again) bytes) reply tt ms)
   starts (Making entry) bytes reply [] p k a ms = absurd (none_asked (asks_at j (Making entry) bytes) reply tt ms)
   starts (Cutting entry) bytes reply [] p k a ms = absurd (none_asked (asks_at j (Cutting entry) bytes) reply tt ms)
   starts (Renaming entry) bytes reply [] p k a ms = absurd (none_asked (asks_at j (Renaming entry) bytes) reply tt ms)
-  starts (ClosingEntry answer temp) bytes reply [] p k a ms = absurd (none_asked (asks_at j (ClosingEntry answer temp) bytes) reply tt ms)
+  starts (ClosingEntry answer besides) bytes reply [] p k a ms = absurd (none_asked (asks_at j (ClosingEntry answer besides) bytes) reply tt ms)
   starts (ClosingTemp answer) bytes reply [] p k a ms = absurd (none_asked (asks_at j (ClosingTemp answer) bytes) reply tt ms)
+  starts (ClosingLock answer) bytes reply [] p k a ms = absurd (none_asked (asks_at j (ClosingLock answer) bytes) reply tt ms)
   starts phase bytes reply [] p k a ms = absurd a
   starts phase bytes reply (x ∷ made) p k a ms = (k, a, ms)
 
@@ -121,13 +129,17 @@ module _ (j : Job) (request : Request) (fits : IsDriver j.driver) (filled : nat_
   moves (Reading look n) bytes reply x made p b d legal = follows (Reading look n) bytes reply p x made (reading j look n bytes reply p x made b d.0 d.1 d.2 legal)
   moves ReadingFront bytes reply x made p b d legal = follows ReadingFront bytes reply p x made (reading_front j bytes reply p x made b d.0 d.1 d.2 legal)
   moves Leaving bytes reply x made p b d legal = follows Leaving bytes reply p x made (leaving j bytes reply p x made b d.0 d.1 d.2 legal)
+  moves OpeningLock bytes reply x made p b d legal = follows OpeningLock bytes reply p x made (opening_lock j bytes reply p x made b d.0 d.1 d.2 legal)
+  moves (Locking again) bytes reply x made p b d legal = follows (Locking again) bytes reply p x made (locking j again bytes reply p x made b d.0 d.1 d.2 legal)
+  moves (Pausing again) bytes reply x made p b d legal = follows (Pausing again) bytes reply p x made (pausing j again bytes reply p x made b d.0 d.1 d.2 legal)
   moves (Evicting driver) bytes reply x made p b d legal = follows (Evicting driver) bytes reply p x made (evicting j driver bytes reply p x made b d.0 d.1 d.2 legal)
   moves (Making entry) bytes reply x made p b d legal = follows (Making entry) bytes reply p x made (making j entry bytes reply p x made b d.0 d.1 d.2 legal)
   moves (Cutting entry) bytes reply x made p b d legal = follows (Cutting entry) bytes reply p x made (cutting j entry bytes reply p x made b d.0 d.1 d.2 legal)
   moves (Writing entry) bytes reply x made p b d legal = writing j entry bytes reply p x made b d legal
   moves (Renaming entry) bytes reply x made p b d legal = follows (Renaming entry) bytes reply p x made (renaming j entry bytes reply p x made b d.0 d.1 d.2 legal)
-  moves (ClosingEntry answer temp) bytes reply x made p b d legal = follows (ClosingEntry answer temp) bytes reply p x made (closing_entry j answer temp bytes reply p x made b d.0 d.1 d.2 legal)
+  moves (ClosingEntry answer besides) bytes reply x made p b d legal = follows (ClosingEntry answer besides) bytes reply p x made (closing_entry j answer besides bytes reply p x made b d.0 d.1 d.2 legal)
   moves (ClosingTemp answer) bytes reply x made p b d legal = follows (ClosingTemp answer) bytes reply p x made (closing_temp j answer bytes reply p x made b d.0 d.1 d.2 legal)
+  moves (ClosingLock answer) bytes reply x made p b d legal = follows (ClosingLock answer) bytes reply p x made (closing_lock j answer bytes reply p x made b d.0 d.1 d.2 legal)
   moves phase bytes reply x made p b d legal = absurd d.1
 
   -- ---- others' items
@@ -143,11 +155,13 @@ module _ (j : Job) (request : Request) (fits : IsDriver j.driver) (filled : nat_
         told = other_told j.me p.told x other;
         tidy = item_tidy p.state.disk x b.tidy;
         elsewhere = λ alone. absurd (false≢true (sym other ∙ fair.2 alone));
+        free = λ alone. absurd (false≢true (sym other ∙ fair.2 alone));
       };
       spared = fair.1 other;
       still = λ alone. absurd (false≢true (sym other ∙ fair.2 alone));
     };
     slots = λ at. other_slots j.me p.state.disk x at other goes;
+    among = λ alone. false≢true (sym other ∙ fair.2 alone);
   }
 
   doing_on : (phase : PutPhase) (bytes : List ℕ) (reply : Reply) (made : List LogItem) (p p' : Place) → Spares j p p' → Doing j phase bytes reply made p → Doing j phase bytes reply made p'
@@ -189,8 +203,13 @@ module _ (j : Job) (request : Request) (fits : IsDriver j.driver) (filled : nat_
       subst (λ (s : Store). IsPutItem (log ++ Begin j.me (requests.Put s driver key meta blob limit) ∷ []) j.root j.key j.item) (sym a.0) at_driver
   begun_is log r a = absurd a
 
-  begins : (first : FolderPut) → IsNewPut j.root j.driver j.key j.item first → (p : Place) → IsTidy p.state.disk → Rule p (Begin j.me request) × Between first (step j.me p (Begin j.me request))
-  begins first new p tidy =
+  -- before it the disk is tidy, and no other seat holds the lock where it is alone
+  pub record IsReady (p : Place) : Type 0 where
+    pub tidy : IsTidy p.state.disk
+    pub free : j.alone ≡ true → IsUnlocked j.me j.root j.key p.state.disk
+
+  begins : (first : FolderPut) → IsNewPut j.root j.driver j.key j.item first → (p : Place) → IsReady p → Rule p (Begin j.me request) × Between first (step j.me p (Begin j.me request))
+  begins first new p ready =
       let begin : LogItem = Begin j.me request in
       let p' : Place = step j.me p begin in
       let base : p'.base ≡ p.state.disk = rw (seat_self j.me) refl in
@@ -201,7 +220,12 @@ module _ (j : Job) (request : Request) (fits : IsDriver j.driver) (filled : nat_
         still = λ alone. subst (λ (d : Disk). IsStill d p.state.disk) (sym base) still;
         quiet = none;
       } in
-      let known : Base j p' = record { tidy = tidy; begun = begun_is p.log request asks; elsewhere = λ alone name other. ap (λ (d : Disk). file_of d name) (sym base) } in
+      let known : Base j p' = record {
+        tidy = ready.tidy;
+        begun = begun_is p.log request asks;
+        elsewhere = λ alone. subst (λ (d : Disk). LeavesElsewhere j.root j.key d p.state.disk) (sym base) (still_elsewhere p.state.disk p.state.disk j.root j.key still);
+        free = ready.free;
+      } in
       let knows : KnowsAt j (Opening First) first.item p' = (new.item_is, looking) in (
         λ mine. record { whole = whole_still p.log p.state.disk p.state.disk begin still; replaces = tt; ends = tt },
         (record { root = new.root_is; driver = new.driver_is; key = new.key_is }, known, subst (λ (phase : PutPhase). KnowsAt j phase first.item p') (sym new.opening) knows),
@@ -218,6 +242,7 @@ module _ (j : Job) (request : Request) (fits : IsDriver j.driver) (filled : nat_
   small : (given : Answer) (p : Place) → Answered j given p → IsSmall given
   small answers.Stored p k = tt
   small answers.Kept p k = tt
+  small answers.Busy p k = tt
   small answers.FilesFault p k = tt
   small answers.NoMemory p k = tt
   small answer p k = absurd k
@@ -229,16 +254,18 @@ module _ (j : Job) (request : Request) (fits : IsDriver j.driver) (filled : nat_
   leaves_of : (answer : Answer) (p : Place) → j.alone ≡ true → Answered j answer p → Leaves j.root j.driver j.key j.blob answer p.base p.state.disk
   leaves_of answers.Stored p alone k = (λ held. k.lacks held.0 held.1, subst (λ (o : Option (List ℕ)). FileReads o j.driver j.blob) (sym k.entry) reads, k.no_temp)
   leaves_of answers.Kept p alone k = (k.held, k.looking.still alone)
+  leaves_of answers.Busy p alone k = absurd (k alone)
   leaves_of answers.FilesFault p alone k = k.entry
   leaves_of answers.NoMemory p alone k = k.entry
   leaves_of answer p alone k = absurd k
 
-  tells_of : (answer : Answer) (p : Place) → Answered j answer p → TellsEvicts j.me j.root j.key (old j p) answer p.told
-  tells_of answers.Stored p k = k.told
-  tells_of answers.Kept p k = k.looking.quiet
-  tells_of answers.FilesFault p k = k.told
-  tells_of answers.NoMemory p k = k.told
-  tells_of answer p k = absurd k
+  tells_of : (answer : Answer) (p : Place) → j.alone ≡ true → Answered j answer p → TellsEvicts j.me j.root j.key (old j p) answer p.told
+  tells_of answers.Stored p alone k = k.told
+  tells_of answers.Kept p alone k = k.looking.quiet
+  tells_of answers.Busy p alone k = absurd (k alone)
+  tells_of answers.FilesFault p alone k = k.told
+  tells_of answers.NoMemory p alone k = k.told
+  tells_of answer p alone k = absurd k
 
   ends : (m : FolderPut) (given answer : Answer) (p : Place) → Between m p → asks_put m ≡ steps.Done given → IsEndOf given answer → IsRight j p (End j.me answer)
   ends m given answer p inv e is =
@@ -249,19 +276,19 @@ module _ (j : Job) (request : Request) (fits : IsDriver j.driver) (filled : nat_
       record {
         whole = whole_still p.log p.state.disk p.state.disk (End j.me answer) still;
         replaces = tt;
-        ends = λ alone. (leaves_of answer p alone k, inv.1.elsewhere alone, tells_of answer p k);
+        ends = λ alone. (leaves_of answer p alone k, inv.1.elsewhere alone, tells_of answer p alone k);
       }
 
-  outer : (first : FolderPut) (answer : Answer) → IsNewPut j.root j.driver j.key j.item first → Outer asks_put j.me (step j.me) Fair Rule Between (λ p. IsTidy p.state.disk) first request answer
+  outer : (first : FolderPut) (answer : Answer) → IsNewPut j.root j.driver j.key j.item first → Outer asks_put j.me (step j.me) Fair Rule Between IsReady first request answer
   outer first answer new = record {
-    begins = λ p tidy fair. begins first new p tidy;
-    ends = λ m given p inv e is fair. (λ mine. ends m given answer p inv e is, inv.1.tidy);
-    outside = λ x p tidy other goes fair rule. item_tidy p.state.disk x tidy;
+    begins = λ p ready fair. begins first new p ready;
+    ends = λ m given p inv e is fair. (λ mine. ends m given answer p inv e is, record { tidy = inv.1.tidy; free = inv.1.free });
+    outside = λ x p ready other goes fair rule. record { tidy = item_tidy p.state.disk x ready.tidy; free = λ alone. absurd (false≢true (sym other ∙ fair.2 alone)) };
   }
 
   -- Each own item of a put is right, whatever others do that leaves the key's entry and its temporary file alone.
   pub all_right : (first : FolderPut) (answer : Answer) (news : List LogItem) (p : Place) (xs : List Exchange) (given : Answer) (last : FolderPut) → IsNewPut j.root j.driver j.key j.item first → Runs asks_put asked_put FedPut j.me first xs given last → IsEndOf given answer
-      → own j.me news ≡ Begin j.me request ∷ (items_of_all xs ++ End j.me answer ∷ []) → IsTidy p.state.disk → All (step j.me) Fair p news → NoStop j.me.process news → All (step j.me) Rule p news
-  all_right first answer news p xs given last new runs is e tidy fair goes =
+      → own j.me news ≡ Begin j.me request ∷ (items_of_all xs ++ End j.me answer ∷ []) → IsReady p → All (step j.me) Fair p news → NoStop j.me.process news → All (step j.me) Rule p news
+  all_right first answer news p xs given last new runs is e ready fair goes =
       all_as_own (step j.me) Rule j.me (λ q x other mine. absurd (false≢true (sym other ∙ mine))) p news
-      (weave_operation asks_put asked_put FedPut j.me (step j.me) Fair Rule Between During inductive (λ q. IsTidy q.state.disk) first request answer (outer first answer new) news p [] xs given last tidy runs is (append-nil (own j.me news) ∙ e) fair goes).0
+      (weave_operation asks_put asked_put FedPut j.me (step j.me) Fair Rule Between During inductive IsReady first request answer (outer first answer new) news p [] xs given last ready runs is (append-nil (own j.me news) ∙ e) fair goes).0

@@ -11,9 +11,11 @@ use Rattle.file_log.specs.declared.reply.Reply.TheVariants as replies
 use Rattle.file_log.specs.Exchange.{byte_items}
 use Rattle.file_log.specs.Legal.{IsLegal}
 use Rattle.file_log.specs.Writing.{written}
+use Rattle.file_log.proofs.All.{seat_self}
 use Rattle.file_log.proofs.Writing.{reached}
-use Rattle.folder_store.specs.declared.put.PutPhase.{PutPhase}
-use Rattle.folder_store.specs.declared.put.PutPhase.TheVariants.{Writing, Renaming}
+use Rattle.folder_store.specs.declared.put_phase.Besides.TheVariants.{LockAndTemp}
+use Rattle.folder_store.specs.declared.put_phase.PutPhase.{PutPhase}
+use Rattle.folder_store.specs.declared.put_phase.PutPhase.TheVariants.{Writing, Renaming}
 use Rattle.folder_store.specs.PutPhases.{closing}
 use Rattle.folder_store.proofs.PutDisks.{writing_apart, writing_has}
 use Rattle.folder_store.proofs.PutKnown.{Job, Place, step, Base, Going, HasWritten, KnowsAt, rests_goes, going_on}
@@ -72,7 +74,7 @@ module _ (j : Job) where
   byte done v = Byte j.me 3 (length done) v
 
   byte_is : (p : Place) (done : List ℕ) (v : ℕ) → Base j p → HasWritten j p done → Changed j p (byte done v)
-  byte_is p done v b h = changed j p (byte done v) b refl refl refl tt tt (writing_apart j.me j.root j.key p.state.disk done (written (length done) (v ∷ [])) b.tidy h)
+  byte_is p done v b h = changed j p (byte done v) b (seat_self j.me) refl refl refl tt tt (writing_apart j.me j.root j.key p.state.disk done (written (length done) (v ∷ [])) b.tidy h)
 
   byte_has : (p : Place) (done : List ℕ) (v : ℕ) → HasWritten j p done → HasWritten j (step j.me p (byte done v)) (done ++ v ∷ [])
   byte_has p done v h = subst (HasWritten j (step j.me p (byte done v))) (written_end done v) (writing_has j.me j.root j.key p.state.disk done (written (length done) (v ∷ [])) h)
@@ -111,7 +113,7 @@ module _ (j : Job) where
   failed_moves : (entry : Bool) (bytes : List ℕ) (p : Place) (x : LogItem) (rest : List LogItem) (done left : List ℕ) → Base j p → Going j p → HasWritten j p done → x ∷ rest ≡ byte_items j.me 3 (length done) left ++ Failed j.me false ∷ [] → Moves (Writing entry) bytes replies.Failed p x rest
   failed_moves entry bytes p x rest done [] b g h ms =
       let p' : Place = step j.me p (Failed j.me false) in
-      fault_moves entry bytes false replies.Failed p x rest b g ms (λ g'. into j (closing answers.FilesFault entry true) [] p' (closing_knows j answers.FilesFault entry true [] p' (going_excused j p' g')))
+      fault_moves entry bytes false replies.Failed p x rest b g ms (λ g'. into j (closing answers.FilesFault entry LockAndTemp) [] p' (closing_knows j answers.FilesFault entry LockAndTemp [] p' (going_excused j p' g')))
   failed_moves entry bytes p x rest done (v ∷ vs) b g h ms =
       let p' : Place = step j.me p (byte done v) in
       byte_moves entry bytes replies.Failed p done v (λ n. byte_items j.me 3 n vs ++ Failed j.me false ∷ []) x rest b g h ms (λ g' h'. failed_next entry bytes p' (done ++ v ∷ []) vs g' h')
@@ -119,7 +121,7 @@ module _ (j : Job) where
   refused_moves : (entry : Bool) (bytes : List ℕ) (p : Place) (x : LogItem) (rest : List LogItem) (done left : List ℕ) → Base j p → Going j p → HasWritten j p done → x ∷ rest ≡ byte_items j.me 3 (length done) left ++ Failed j.me true ∷ [] → Moves (Writing entry) bytes replies.NoMemory p x rest
   refused_moves entry bytes p x rest done [] b g h ms =
       let p' : Place = step j.me p (Failed j.me true) in
-      fault_moves entry bytes true replies.NoMemory p x rest b g ms (λ g'. into j (closing answers.NoMemory entry true) [] p' (closing_knows j answers.NoMemory entry true [] p' (going_excused j p' g')))
+      fault_moves entry bytes true replies.NoMemory p x rest b g ms (λ g'. into j (closing answers.NoMemory entry LockAndTemp) [] p' (closing_knows j answers.NoMemory entry LockAndTemp [] p' (going_excused j p' g')))
   refused_moves entry bytes p x rest done (v ∷ vs) b g h ms =
       let p' : Place = step j.me p (byte done v) in
       byte_moves entry bytes replies.NoMemory p done v (λ n. byte_items j.me 3 n vs ++ Failed j.me true ∷ []) x rest b g h ms (λ g' h'. refused_next entry bytes p' (done ++ v ∷ []) vs g' h')

@@ -51,9 +51,12 @@ done_changes d who (calls.ReadAt slot at n) look = record { names = λ name. ref
 done_changes d who (calls.Close slot) look = record { names = λ name. refl; files = λ file. refl }
 done_changes d who call look = absurd look
 
+pub looking_still : (me : Who) (call : Call) (reply : Reply) → IsLooking call → (d : Disk) → IsStill d (applied d (item_for me call reply))
+looking_still me call replies.Done look d = done_changes d me call look
+looking_still me call reply look d = record { names = λ name. refl; files = λ file. refl }
+
 looking_changes : (me : Who) (call : Call) (reply : Reply) → IsLooking call → ChangesNothing (item_for me call reply)
-looking_changes me call replies.Done look s = done_changes s.disk me call look
-looking_changes me call reply look s = record { names = λ name. refl; files = λ file. refl }
+looking_changes me call reply look s = looking_still me call reply look s.disk
 
 module _ {M : Type 0} (asks : M → Step) (asked : M → M) (fed : M → Reply → M → Type 0) (me : Who) (looks : (m : M) (call : Call) → asks m ≡ Ask call → IsLooking call) where
   abbrev Between : M → State → Type 0

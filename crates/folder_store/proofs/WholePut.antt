@@ -1,5 +1,6 @@
 -- What a whole put does, from its Begin to its End.
-use Rattle.std.proofs.Common.{◌≡◌, ◌≤◌, ◌⊎◌, inl, inr, ℕ, true, false, List, [], ◌∷◌, Option, refl, sym, ap, subst, ◌∙◌, arith}
+use Rattle.std.specs.List.{AllByRecursion}
+use Rattle.std.proofs.Common.{◌≡◌, ◌≤◌, ◌⊎◌, ◌↔◌, inl, inr, ℕ, true, false, List, [], ◌∷◌, Option, refl, sym, ap, subst, ◌∙◌, arith}
 use Rattle.cache_types.specs.declared.answer.Answer.{Answer}
 use Rattle.cache_types.specs.declared.answer.Answer.TheVariants as answers
 use Rattle.cache_types.specs.declared.key.Key.{Key}
@@ -13,12 +14,19 @@ use Rattle.file_log.specs.Log.{History, own}
 use Rattle.file_log.specs.Operation.{is_fault, calls_in}
 use Rattle.files_api.specs.Drive.{items_of_all, IsEndOf, Refused, Unmade, Operated}
 use Rattle.folder_store.specs.declared.put.FolderPut.{FolderPut}
-use Rattle.folder_store.specs.declared.put.PutPhase.{PutPhase}
+use Rattle.folder_store.specs.declared.put_phase.PutPhase.{PutPhase}
 use Rattle.folder_store.specs.Put.{IsPutAnswer, AsksPut, PutDone, blob_in, is_change, is_want}
-use Rattle.folder_store.specs.PutPhases.{IsNewPut, asks_put, asked_put, FedPut, put_left_in}
+use Rattle.folder_store.specs.PutPhases.{IsNewPut, asks_put, asked_put, FedPut, most_put_calls, put_left_in}
 use Rattle.folder_store.proofs.Items.{any_fault, any_want, any_change, all_within, all_counted}
 use Rattle.folder_store.proofs.Operations.{Grows-map, no_fault, never_fault, any_inside}
 use Rattle.folder_store.proofs.PutCalls.{put_within, same_put_root, put_spends}
+use Rattle.file_log.specs.declared.reply.Reply.{Reply}
+use Rattle.file_log.specs.State.{after, state_of}
+use Rattle.file_log.proofs.All.{none_keeps}
+use Rattle.folder_store.specs.declared.put_phase.TheConstants.{LOCK_TRIES}
+use Rattle.folder_store.specs.Locking.{HeldInRow, lock_replies, ChangesUnderLock}
+use Rattle.folder_store.proofs.LockHeld.{held_throughout, IsIdleItem, idle_keeps, calm_all}
+use Rattle.folder_store.proofs.LockTries.{IsOf, AreCalm, nothing_calm, tried_lock, busy_is, never_tried, whole_replies, whole_calm}
 use Rattle.folder_store.proofs.PutEnds.{put_alone, put_whole, put_tells}
 use Rattle.folder_store.proofs.PutOnDisk.{OnDisk, refused_on_disk, unmade_on_disk}
 use Rattle.folder_store.proofs.PutOutcome.{put_outcome}
@@ -31,9 +39,13 @@ end_is given answer kind (inr lack) = absurd (lack.1 (small given kind))
     small : (a : Answer) → IsPutAnswer a → IsSmall a
     small answers.Stored k = tt
     small answers.Kept k = tt
+    small answers.Busy k = tt
     small answers.FilesFault k = tt
     small answers.NoMemory k = tt
     small a k = absurd k
+
+no_busy : (answer : Answer) → answer ≡ answers.NoMemory → answer ≡ answers.Busy → ⊥
+no_busy answer e f = let clash : answers.NoMemory ≡ answers.Busy = sym e ∙ f in absurd cc
 
 -- an operation without a call changes nothing
 never_changes : (made : List LogItem) → any_change made ≡ false → any_change made ≡ true → any_want made ≡ true
@@ -42,6 +54,13 @@ never_changes made none some = let clash : false ≡ true = sym none ∙ some in
 module _ (me : Who) (request : Request) (root : ℕ) (driver : DriverKeys) (key : Key) (item : List ℕ) (old new : Option History) (before now : ℕ) (answer : Answer) where
   abbrev IsDone : Type 0
   IsDone = PutDone me request root driver key (blob_in request) old new before now answer
+
+  -- a Begin and an End change nothing, and try no lock
+  idle_begin : (r : Request) → IsIdleItem me root key (Begin me r)
+  idle_begin r = record { calm = nothing_calm me root key; tries = λ d. tt }
+
+  idle_end : (a : Answer) → IsIdleItem me root key (End me a)
+  idle_end a = record { calm = nothing_calm me root key; tries = λ d. tt }
 
   pub refused : Refused me old new answer → IsDone
   refused r = record {
@@ -54,6 +73,9 @@ module _ (me : Who) (request : Request) (root : ℕ) (driver : DriverKeys) (key 
           alone = disk.alone;
           whole = disk.whole;
           tells_first = disk.tells_first;
+          locked = none_keeps after (ChangesUnderLock me root key) me (state_of h) news o.own_items;
+          busy = busy_is me root key answer (own me news) (never_tried me root key answer (own me news) r.answer_is (ap lock_replies o.own_items));
+          calm = λ e. absurd (no_busy answer r.answer_is e);
           fault = never_fault answer (own me news) r.answer_is (ap any_fault o.own_items);
           want = λ e. never_changes (own me news) (ap any_change o.own_items);
         });
@@ -70,6 +92,9 @@ module _ (me : Who) (request : Request) (root : ℕ) (driver : DriverKeys) (key 
           alone = disk.alone;
           whole = disk.whole;
           tells_first = disk.tells_first;
+          locked = idle_keeps me root key (state_of h) news (subst (AllByRecursion (IsIdleItem me root key)) (sym o.owns.own_items) (idle_begin request, (idle_end answers.NoMemory, tt)));
+          busy = busy_is me root key answer (own me news) (never_tried me root key answer (own me news) r.answer_is (ap lock_replies o.owns.own_items));
+          calm = λ e. absurd (no_busy answer r.answer_is e);
           fault = never_fault answer (own me news) r.answer_is (ap any_fault o.owns.own_items);
           want = λ e. never_changes (own me news) (ap any_change o.owns.own_items);
         });
@@ -83,19 +108,25 @@ module _ (me : Who) (request : Request) (root : ℕ) (driver : DriverKeys) (key 
       let out = put_outcome me r.first r.last r.exchanges r.given begun.opening r.runs in
       let same = end_is r.given answer out.kind r.answer_is in
       let within = all_within asks_put asked_put FedPut me root (λ m. m.root ≡ root) (put_within root) (same_put_root root) r.first r.last r.exchanges r.given begun.root_is r.runs in
-      let few : calls_in inner ≤ 14 = subst (λ (p : PutPhase). calls_in inner ≤ put_left_in p) begun.opening (all_counted asks_put asked_put FedPut me (λ m. put_left_in m.phase) put_spends r.first r.last r.exchanges r.given r.runs) in
+      let of : IsOf me root key r.first = record { root_is = begun.root_is; key_is = begun.key_is } in
+      let tried = tried_lock me root key r.first r.last r.exchanges r.given of begun.opening r.runs in
+      let few : calls_in inner ≤ most_put_calls = subst (λ (p : PutPhase). calls_in inner ≤ put_left_in p) begun.opening (all_counted asks_put asked_put FedPut me (λ m. put_left_in m.phase) put_spends r.first r.last r.exchanges r.given r.runs) in
       record {
         kind = rw same out.kind;
         cause = λ e. r.counts.rose (out.failed (sym same ∙ e));
         told = Grows-map old new _ _ r.told (λ h news o.
             let faults : any_fault (own me news) ≡ any_fault inner = ap any_fault o.owns.own_items ∙ any_inside is_fault me request answer inner refl refl in
             let wants : any_want (own me news) ≡ any_want inner = ap any_want o.owns.own_items ∙ any_inside is_want me request answer inner refl refl in
+            let replies : lock_replies (own me news) ≡ lock_replies inner = ap lock_replies o.owns.own_items ∙ whole_replies me root key request answer inner in
             let changes : any_change (own me news) ≡ any_change inner = ap any_change o.owns.own_items ∙ any_inside is_change me request answer inner refl refl in
             record {
               operation = inr (record { inner = inner; whole = o.owns.own_items; within = within; few = few });
               alone = put_alone me request root driver key item fits asks answer r.given r.first r.last r.exchanges begun r.runs r.answer_is h news o within;
               whole = put_whole me request root driver key item fits asks answer r.given r.first r.last r.exchanges begun r.runs r.answer_is h news o;
               tells_first = put_tells me request root driver key item fits asks answer r.given r.first r.last r.exchanges begun r.runs r.answer_is h news o;
+              locked = held_throughout me root key r.first r.last request answer r.given news (state_of h) r.exchanges of begun.opening r.runs r.answer_is o.owns.own_items o.owns.legal o.owns.goes_on;
+              busy = subst (λ (l : List Reply). (answer ≡ answers.Busy) ↔ HeldInRow LOCK_TRIES l) (sym replies) (subst (λ (a : Answer). (a ≡ answers.Busy) ↔ HeldInRow LOCK_TRIES (lock_replies inner)) (sym same) (busy_is me root key r.given inner tried));
+              calm = λ e. calm_all me root key (state_of h) news (subst (AreCalm me root key) (sym o.owns.own_items) (whole_calm me root key request answer inner (tried.calm (sym same ∙ e))));
               fault = (λ e. faults ∙ out.told (sym same ∙ e), λ some. same ∙ out.only (sym faults ∙ some));
               want = λ e c. wants ∙ out.want (sym same ∙ e) (sym changes ∙ c);
             });

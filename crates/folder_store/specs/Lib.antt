@@ -2,6 +2,7 @@ pub mod Holds
 pub mod Phases
 pub mod Laws
 pub mod Lookup
+pub mod Locking
 pub mod PutPhases
 pub mod PutLaws
 pub mod Entries

@@ -2,7 +2,7 @@
 use Rattle.std.specs.Prelude.{◌≡◌, ◌⊎◌, ◌↔◌, ℕ, Bool, true, false, List, [], ◌∷◌, Option, Some, None, filter}
 use Rattle.std.specs.List.{list_any}
 use Rattle.cache_types.specs.declared.answer.Answer.{Answer}
-use Rattle.cache_types.specs.declared.answer.Answer.TheVariants.{Stored, Kept, FilesFault, NoMemory}
+use Rattle.cache_types.specs.declared.answer.Answer.TheVariants.{Stored, Kept, Busy, FilesFault, NoMemory}
 use Rattle.cache_types.specs.declared.key.Key.{Key}
 use Rattle.cache_types.specs.declared.name.Name.{Name}
 use Rattle.cache_types.specs.declared.name.Name.TheVariants.{Entry, Temp}
@@ -19,16 +19,20 @@ use Rattle.file_log.specs.Along.{All, Keeps}
 use Rattle.file_log.specs.Disk.{Disk, file_of}
 use Rattle.file_log.specs.Log.{History, with_items, own}
 use Rattle.file_log.specs.Operation.{IsOperation, IsStill, is_fault}
-use Rattle.file_log.specs.State.{disk_of}
+use Rattle.file_log.specs.State.{after, state_of, disk_of}
 use Rattle.file_log.specs.Told.{Grows, Rose}
 use Rattle.item_frame.specs.Item.{ReadsAs}
 use Rattle.folder_store.specs.Entries.{folder_of, with_item, EntriesAreWhole, IsWholeAfter, ReplacesTold, OthersSpare}
+use Rattle.folder_store.specs.declared.put_phase.TheConstants.{LOCK_TRIES}
 use Rattle.folder_store.specs.Holds.{FolderHolds}
+use Rattle.folder_store.specs.Locking.{lock_name, IsUnlocked, HeldInRow, lock_replies, ChangesUnderLock, OwnMakesLockAlone}
+use Rattle.folder_store.specs.PutPhases.{most_put_calls}
 
 -- an answer that a put ends with
 abbrev pub IsPutAnswer : Answer → Type 0
 IsPutAnswer Stored = Unit {0}
 IsPutAnswer Kept = Unit {0}
+IsPutAnswer Busy = Unit {0}
 IsPutAnswer FilesFault = Unit {0}
 IsPutAnswer NoMemory = Unit {0}
 IsPutAnswer answer = ⊥
@@ -52,18 +56,28 @@ abbrev pub IsHeld : Disk → ℕ → DriverKeys → Key → Type 0
 IsHeld d root driver key = (blob : List ℕ) × FolderHolds d root driver key blob
 
 -- Stored: the store held none and now holds the put's own, and no temporary name is left. Kept: it held one, and nothing changed.
--- After a failure, or for want of memory, the entry is as it was.
+-- It isn't Busy. After a failure, or for want of memory, the entry is as it was.
 abbrev pub Leaves : ℕ → DriverKeys → Key → List ℕ → Answer → Disk → Disk → Type 0
 Leaves root driver key blob Stored old new = (IsHeld old root driver key → ⊥) × FolderHolds new root driver key blob × (new.names (Temp root key) ≡ None)
 Leaves root driver key blob Kept old new = IsHeld old root driver key × IsStill old new
+Leaves root driver key blob Busy old new = ⊥
 Leaves root driver key blob answer old new = file_of new (Entry root key) ≡ file_of old (Entry root key)
 
--- all names but the key's two have their files, with the same bytes
-abbrev pub IsElsewhere : ℕ → Key → Name → Type 0
-IsElsewhere root key name = (same_name name (Entry root key) ≡ false) × (same_name name (Temp root key) ≡ false)
+-- a name that is neither the key's entry, nor its temporary file, nor the lock file of its folder
+pub record IsElsewhere (root : ℕ) (key : Key) (name : Name) : Type 0 where
+  pub no_entry : same_name name (Entry root key) ≡ false
+  pub no_temp : same_name name (Temp root key) ≡ false
+  pub no_lock : same_name name (lock_name root key) ≡ false
 
-abbrev pub LeavesElsewhere : ℕ → Key → Disk → Disk → Type 0
-LeavesElsewhere root key old new = (name : Name) → IsElsewhere root key name → file_of new name ≡ file_of old name
+-- the lock file has the bytes that it had; where it wasn't there, it still isn't, or is empty
+abbrev pub KeepsLock : Option (List ℕ) → Option (List ℕ) → Type 0
+KeepsLock None new = (new ≡ None) ⊎ (new ≡ Some [])
+KeepsLock (Some bytes) new = new ≡ Some bytes
+
+-- all names elsewhere have their files, with the same bytes, and the lock file at most came
+pub record LeavesElsewhere (root : ℕ) (key : Key) (old new : Disk) : Type 0 where
+  pub names : (name : Name) → IsElsewhere root key name → file_of new name ≡ file_of old name
+  pub lock : KeepsLock (file_of old (lock_name root key)) (file_of new (lock_name root key))
 
 -- ---- what it tells
 
@@ -85,7 +99,8 @@ TellsEvicts me root key entry answer evicts = (evicts ≡ []) ⊎ TellsReplaced 
 
 -- ---- a put alone
 
--- A put where no other seat has an item: what it leaves of the key's entry, that all else is as it was, and which evictions it told.
+-- A put where no other seat has an item or holds the folder's lock: what it leaves of the key's entry, that all else is as it
+-- was, and which evictions it told.
 pub record PutsAlone (me : Who) (root : ℕ) (driver : DriverKeys) (key : Key) (blob : List ℕ) (answer : Answer) (old new : Disk) (made : List LogItem) : Type 0 where
   pub leaves : Leaves root driver key blob answer old new
   pub elsewhere : LeavesElsewhere root key old new
@@ -109,14 +124,20 @@ is_want item = false
 
 -- A seat put a blob into a folder store: a history h went on by these new items.
 pub record Puts (me : Who) (request : Request) (root : ℕ) (driver : DriverKeys) (key : Key) (blob : List ℕ) (answer : Answer) (h : History) (news : List LogItem) : Type 0 where
-  -- nothing was begun for want of memory, or its own items are one operation of at most fourteen calls in this root
-  pub operation : ((own me news ≡ []) × (answer ≡ NoMemory)) ⊎ IsOperation me request root 14 answer (own me news)
-  -- what it does where all new items are its own
-  pub alone : own me news ≡ news → PutsAlone me root driver key blob answer (disk_of h) (disk_of (with_items h news)) (own me news)
+  -- nothing was begun for want of memory, or its own items are one operation of at most 143 calls in this root
+  pub operation : ((own me news ≡ []) × (answer ≡ NoMemory)) ⊎ IsOperation me request root most_put_calls answer (own me news)
+  -- what it does where all new items are its own, and at first no other seat holds the lock of the key's folder
+  pub alone : own me news ≡ news → IsUnlocked me root key (disk_of h) → PutsAlone me root driver key blob answer (disk_of h) (disk_of (with_items h news)) (own me news)
   -- where others leave the key's entry and its temporary file alone, it is not the first whose item leaves an entry that isn't whole
   pub whole : All with_item (OthersSpare me root key) h news → EntriesAreWhole h → Keeps with_item IsWholeAfter me h news
   -- and it replaces no entry of a driver before it told that this goes
   pub tells_first : All with_item (OthersSpare me root key) h news → Keeps with_item ReplacesTold me h news
+  -- it changes names and files under the lock of the key's folder alone, as long as no other seat takes the lock file its name
+  pub locked : Keeps after (ChangesUnderLock me root key) me (state_of h) news
+  -- it is busy exactly where 64 of its tries in a row to take that lock were answered that another seat holds it
+  pub busy : (answer ≡ Busy) ↔ HeldInRow LOCK_TRIES (lock_replies (own me news))
+  -- and then it has changed nothing, but that the lock file may be there now
+  pub calm : answer ≡ Busy → All after (OwnMakesLockAlone me root key) (state_of h) news
   -- it answers a fault exactly where one of its calls failed other than for want of memory
   pub fault : (answer ≡ FilesFault) ↔ (list_any is_fault (own me news) ≡ true)
   -- once it has changed a file it answers want of memory only where a call was refused it

@@ -4,9 +4,12 @@
 mod get;
 mod lookup;
 mod put;
+mod put_phase;
+mod put_replies;
 mod putting;
 
 pub use get::FolderGet;
 pub use lookup::folder_get;
 pub use put::FolderPut;
+pub use put_phase::LOCK_TRIES;
 pub use putting::folder_put;

@@ -1,15 +1,17 @@
 ghost use Rattle.std.specs.Prelude.{◌≡◌};
-ghost use Rattle.cache_types.specs.Driver.{Fronts};
-ghost use Rattle.folder_store.specs.Phases.{fault};
-ghost use Rattle.folder_store.specs.PutPhases.{IsNewPut, NextPut, Judged, Fronted, opened as the_opened, measured as the_measured, closing as the_closing, unless_done as the_unless_done, given_in, after_giving};
+ghost use Rattle.folder_store.specs.PutPhases.{IsNewPut, changes_in, item_after, given_in, after_giving};
+ghost use Rattle.folder_store.specs.Locking.{folder_byte};
 
-use crate::get::fault_of;
-use cache_types::{Answer, Bytes, Driver, Key, Layout, MAX_ITEM, Name, Store};
+use crate::put_phase::{Look, PutPhase};
+use crate::put_replies::next_phase;
+use cache_types::{Answer, Bytes, Driver, Key, Layout, Name, Store};
 use file_log::{Call, Note, Reply};
 use files_api::{Machine, Step};
-use item_frame::check_item;
 use std::alloc::Global;
 use std::mem;
+
+/// The slot of the folder's lock file.
+const LOCK_SLOT: u8 = 0;
 
 /// The slot of the entry's file.
 const ENTRY_SLOT: u8 = 1;
@@ -21,54 +23,17 @@ const TEMP_SLOT: u8 = 3;
 /// item.
 const LONGEST_FRONT: u64 = 522;
 
-/// Which of the two looks at the entry it is: the first ends a put that has nothing to do, the second tells
-/// what will be replaced.
-#[derive(Clone, Copy, Debug, PartialEq, Eq)]
-pub(crate) enum Look {
-    First,
-    Second,
-}
-
-/// How far a put has come. From the temporary file on, `entry` says whether the entry's file is open.
-#[derive(Debug, Drop)]
-pub(crate) enum PutPhase {
-    /// It asks for the entry's file.
-    Opening(Look),
-    /// It asks for the file's length.
-    Measuring(Look),
-    /// It asks for all bytes of the file, so many.
-    Reading(Look, u64),
-    /// It asks for the first bytes of a file that is too long for an item.
-    ReadingFront,
-    /// It closes the file after the first look.
-    Leaving,
-    /// It tells that the entry of this driver goes.
-    Evicting(Driver),
-    /// It has told that.
-    Evicted,
-    /// It asks for the temporary file.
-    Making { entry: bool },
-    /// It cuts what the temporary file may hold.
-    Cutting { entry: bool },
-    /// It writes the item.
-    Writing { entry: bool },
-    /// It gives the temporary file the entry's name.
-    Renaming { entry: bool },
-    /// It closes the entry's file, and then, where it is open, the temporary file; this is its answer.
-    ClosingEntry { answer: Answer, temp: bool },
-    /// It closes the temporary file; this is its answer.
-    ClosingTemp(Answer),
-    /// This is its answer.
-    Ended(Answer),
-    /// Its answer was given.
-    Spent,
-}
-
-/// A put into a folder store: at most fourteen calls, all in one root.
+/// A put into a folder store: at most 143 calls, all in one root.
 ///
-/// The item is written under a temporary name, which then becomes the entry's. It ends in `Kept` where the
-/// entry's file reads for the driver; in `Stored`; in `FilesFault` where a call failed; in `NoMemory` where a
-/// call was refused memory: it takes none itself.
+/// It looks at the entry as a lookup does. Where that holds nothing for the driver it takes the lock of the
+/// key's folder, with a pause after each try but the last of [`LOCK_TRIES`], and looks again. Under the lock
+/// the item is written under a temporary name, which then becomes the entry's. The lock file is closed last.
+///
+/// It ends in `Kept` where the entry's file reads for the driver; in `Stored`; in `Busy` where another seat
+/// held the lock at each try; in `FilesFault` where a call failed; in `NoMemory` where a call was refused
+/// memory: it takes none itself.
+///
+/// [`LOCK_TRIES`]: crate::LOCK_TRIES
 #[derive(Debug, Drop)]
 pub struct FolderPut {
     root: u32,
@@ -95,114 +60,6 @@ impl FolderPut {
     }
 }
 
-/// What follows on the length of the entry's file.
-fn measured(look: Look, length: u64) -> PutPhase
-    ensures { result ≡ the_measured look length }
-{
-    if length <= MAX_ITEM {
-        return PutPhase::Reading(look, length);
-    }
-    match look {
-        Look::First => PutPhase::Leaving,
-        Look::Second => PutPhase::ReadingFront,
-    }
-}
-
-/// What follows on the bytes at the front of an entry's file that goes.
-fn fronted(bytes: Bytes) -> PutPhase
-    ensures { Fronted bytes result }
-{
-    match Driver::of_front(bytes) {
-        Some(driver) => PutPhase::Evicting(driver),
-        None => PutPhase::Making { entry: true },
-    }
-}
-
-/// What follows on the bytes of the entry's file.
-fn judged(driver: &Driver, look: Look, bytes: Bytes) -> PutPhase
-    ensures { Judged driver.now look bytes result }
-{
-    if check_item(driver, bytes.as_slice()).is_ok() {
-        return PutPhase::ClosingEntry {
-            answer: Answer::Kept,
-            temp: false,
-        };
-    }
-    match look {
-        Look::First => PutPhase::Leaving,
-        Look::Second => fronted(bytes),
-    }
-}
-
-/// The end with an answer, once the files that are open are closed.
-fn closing(answer: Answer, entry: bool, temp: bool) -> PutPhase
-    ensures { result ≡ the_closing answer entry temp }
-{
-    if entry {
-        PutPhase::ClosingEntry { answer, temp }
-    } else if temp {
-        PutPhase::ClosingTemp(answer)
-    } else {
-        PutPhase::Ended(answer)
-    }
-}
-
-/// What follows on the opening of the entry's file.
-fn opened(look: Look, reply: Reply) -> PutPhase
-    ensures { result ≡ the_opened look reply }
-{
-    match (look, reply) {
-        (look, Reply::Done) => PutPhase::Measuring(look),
-        (Look::First, Reply::Missing) => PutPhase::Opening(Look::Second),
-        (Look::Second, Reply::Missing) => PutPhase::Making { entry: false },
-        (_, other) => PutPhase::Ended(fault_of(&other)),
-    }
-}
-
-/// What follows on a call that is done, and the end after another.
-fn unless_done(reply: &Reply, entry: bool, temp: bool, next: PutPhase) -> PutPhase
-    ensures { result ≡ the_unless_done reply.now entry temp next }
-{
-    match reply {
-        Reply::Done => next,
-        other => closing(fault_of(other), entry, temp),
-    }
-}
-
-/// The phase after a reply.
-fn next_phase(driver: &Driver, phase: PutPhase, reply: Reply) -> PutPhase
-    ensures { NextPut driver.now phase reply result }
-{
-    match (phase, reply) {
-        (PutPhase::Opening(look), reply) => opened(look, reply),
-        (PutPhase::Measuring(look), Reply::Number(length)) => measured(look, length),
-        (PutPhase::Reading(look, _), Reply::Got(bytes)) => judged(driver, look, bytes),
-        (PutPhase::ReadingFront, Reply::Got(bytes)) => fronted(bytes),
-        (PutPhase::Measuring(_) | PutPhase::Reading(_, _) | PutPhase::ReadingFront, other) => {
-            closing(fault_of(&other), true, false)
-        }
-        (PutPhase::Leaving, _) => PutPhase::Opening(Look::Second),
-        (PutPhase::Evicted, reply) => {
-            unless_done(&reply, true, false, PutPhase::Making { entry: true })
-        }
-        (PutPhase::Making { entry }, reply) => {
-            unless_done(&reply, entry, false, PutPhase::Cutting { entry })
-        }
-        (PutPhase::Cutting { entry }, reply) => {
-            unless_done(&reply, entry, true, PutPhase::Writing { entry })
-        }
-        (PutPhase::Writing { entry }, reply) => {
-            unless_done(&reply, entry, true, PutPhase::Renaming { entry })
-        }
-        (PutPhase::Renaming { entry }, reply) => {
-            unless_done(&reply, entry, true, closing(Answer::Stored, entry, true))
-        }
-        (PutPhase::ClosingEntry { answer, temp }, _) => closing(answer, false, temp),
-        (PutPhase::ClosingTemp(answer), _) => PutPhase::Ended(answer),
-        (PutPhase::Evicting(_) | PutPhase::Ended(_) | PutPhase::Spent, _) => PutPhase::Spent,
-    }
-}
-
 impl FolderPut {
     fn entry_name(&self) -> Name
         ensures { result ≡ Name.Entry self.now.root self.now.key }
@@ -210,6 +67,15 @@ impl FolderPut {
         Name::Entry {
             root: self.root,
             key: self.key,
+        }
+    }
+
+    fn lock_name(&self) -> Name
+        ensures { result ≡ Name.FolderLock self.now.root (folder_byte self.now.key) }
+    {
+        Name::FolderLock {
+            root: self.root,
+            byte: self.key.bytes[0],
         }
     }
 
@@ -233,6 +99,33 @@ impl FolderPut {
             },
             driver,
             key: self.key,
+        }
+    }
+
+    /// The call that makes the temporary file, cuts it, writes the item there, or gives it the entry's name.
+    fn change(&mut self) -> Step
+        ensures step { result ≡ changes_in self.old.root self.old.key self.old.item self.old.phase }
+        ensures after { self.new ≡ record self.old { item = item_after self.old.phase self.old.item } }
+    {
+        match &self.phase {
+            PutPhase::Making { .. } => Step::Ask(Call::OpenNew {
+                slot: TEMP_SLOT,
+                name: self.temp_name(),
+            }),
+            PutPhase::Cutting { .. } => Step::Ask(Call::Cut {
+                slot: TEMP_SLOT,
+                n: 0,
+            }),
+            PutPhase::Writing { .. } => Step::Ask(Call::WriteAt {
+                slot: TEMP_SLOT,
+                at: 0,
+                bytes: mem::replace(&mut self.item, Bytes::new(self.alloc)),
+            }),
+            PutPhase::Renaming { .. } => Step::Ask(Call::Rename {
+                from: self.temp_name(),
+                to: self.entry_name(),
+            }),
+            _ => Step::Done(Answer::NoMemory),
         }
     }
 
@@ -285,27 +178,21 @@ impl Machine for FolderPut {
                 at: 0,
                 n: LONGEST_FRONT,
             }),
-            PutPhase::Leaving | PutPhase::ClosingEntry { answer: _, temp: _ } => {
+            PutPhase::Leaving | PutPhase::ClosingEntry { .. } => {
                 Step::Ask(Call::Close { slot: ENTRY_SLOT })
             }
-            PutPhase::Making { entry: _ } => Step::Ask(Call::OpenNew {
-                slot: TEMP_SLOT,
-                name: self.temp_name(),
+            PutPhase::OpeningLock => Step::Ask(Call::OpenNew {
+                slot: LOCK_SLOT,
+                name: self.lock_name(),
             }),
-            PutPhase::Cutting { entry: _ } => Step::Ask(Call::Cut {
-                slot: TEMP_SLOT,
-                n: 0,
-            }),
-            PutPhase::Writing { entry: _ } => Step::Ask(Call::WriteAt {
-                slot: TEMP_SLOT,
-                at: 0,
-                bytes: mem::replace(&mut self.item, Bytes::new(self.alloc)),
-            }),
-            PutPhase::Renaming { entry: _ } => Step::Ask(Call::Rename {
-                from: self.temp_name(),
-                to: self.entry_name(),
-            }),
+            PutPhase::Locking { .. } => Step::Ask(Call::TryLock { slot: LOCK_SLOT }),
+            PutPhase::Pausing { .. } => Step::Ask(Call::Pause),
+            PutPhase::Making { .. }
+            | PutPhase::Cutting { .. }
+            | PutPhase::Writing { .. }
+            | PutPhase::Renaming { .. } => self.change(),
             PutPhase::ClosingTemp(_) => Step::Ask(Call::Close { slot: TEMP_SLOT }),
+            PutPhase::ClosingLock(_) => Step::Ask(Call::Close { slot: LOCK_SLOT }),
             PutPhase::Evicting(_) | PutPhase::Evicted | PutPhase::Ended(_) | PutPhase::Spent => {
                 self.give()
             }

@@ -10,10 +10,13 @@ use std::alloc::Global;
 /// Puts an item into the folder store of a root, as one operation that was asked for so.
 ///
 /// The answer is `Kept` where the store holds a blob for the driver and key, `Stored` where it held none and
-/// now holds the item's, `FilesFault` exactly where a call failed, or `NoMemory`; after the last two the
-/// entry is as it was. In a log that is told, the own items are one operation of at most fourteen calls in
-/// this root, or none where there was no memory to begin one. Afterwards no operation is open and every slot
-/// is empty, whatever the answer.
+/// now holds the item's, `Busy` exactly where 64 tries in a row of the lock of the key's folder were answered
+/// that another seat holds it, `FilesFault` exactly where a call failed, or `NoMemory`; after the last two
+/// the entry is as it was. A put that is busy changes nothing, but that the lock file may be there, empty.
+///
+/// Names and files are changed under that lock alone, as long as other seats leave the lock file its name. In
+/// a log that is told, the own items are one operation of at most 143 calls in this root, or none where there
+/// was no memory to begin one. Afterwards no operation is open and every slot is empty, whatever the answer.
 pub fn folder_put<F: Files>(
     alloc: Global,
     files: &mut F,
@@ -106,23 +109,53 @@ mod tests {
         matches!(step, Step::Ask(Call::Cut { slot: 3, n: 0 }))
     }
 
-    fn closes(step: &Step) -> bool {
-        matches!(step, Step::Ask(Call::Close { slot: 3 }))
+    fn closes(step: &Step, closed: u8) -> bool {
+        match step {
+            Step::Ask(Call::Close { slot }) => *slot == closed,
+            _ => false,
+        }
     }
 
-    // It finds no entry twice, and makes an empty temporary file.
+    fn opens_lock(step: &Step) -> bool {
+        match step {
+            Step::Ask(Call::OpenNew { slot: 0, name }) => {
+                name.is(&Name::FolderLock { root: 7, byte: 9 })
+            }
+            _ => false,
+        }
+    }
+
+    fn tries(step: &Step) -> bool {
+        matches!(step, Step::Ask(Call::TryLock { slot: 0 }))
+    }
+
+    fn pauses(step: &Step) -> bool {
+        matches!(step, Step::Ask(Call::Pause))
+    }
+
+    // The lock is held by another seat at first, and then taken.
+    fn takes_lock(put: &mut FolderPut) -> bool {
+        opens_lock(&step(put, Reply::Done))
+            && tries(&step(put, Reply::Held))
+            && pauses(&step(put, Reply::Done))
+            && tries(&step(put, Reply::Done))
+    }
+
+    // It finds no entry, takes the lock, finds none again, and makes an empty temporary file.
     fn makes_room(put: &mut FolderPut) -> bool {
         looks(&step(put, Reply::Missing))
+            && takes_lock(put)
             && looks(&step(put, Reply::Missing))
             && makes(&step(put, Reply::Done))
             && cuts(&step(put, Reply::Done))
     }
 
-    // It writes the item there, and gives it the entry's name.
+    // It writes the item there, gives it the entry's name, and closes the lock file last.
     fn moves_in(put: &mut FolderPut, item: &[u8]) -> bool {
         writes(&step(put, Reply::Done), item)
             && renames(&step(put, Reply::Done))
-            && closes(&step(put, Reply::Done))
+            && closes(&step(put, Reply::Done), 3)
+            && closes(&step(put, Reply::Done), 0)
     }
 
     fn stores(alloc: Global, item: &[u8]) -> bool {

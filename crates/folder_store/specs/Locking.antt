@@ -1,0 +1,85 @@
+-- The lock of a folder: whose name it has, who holds it, and what is done under it.
+use Rattle.std.specs.Prelude.{◌≡◌, ◌⊎◌, ◌<◌, ℕ, true, false, get_or, List, [], ◌∷◌, ◌++◌, replicate, Some}
+use Rattle.cache_types.specs.declared.key.Key.{Key}
+use Rattle.cache_types.specs.declared.name.Name.{Name}
+use Rattle.cache_types.specs.declared.name.Name.TheVariants.{FolderLock}
+use Rattle.cache_types.specs.declared.seat.Who.{Who}
+use Rattle.cache_types.specs.Names.{same_name}
+use Rattle.disk_laws.specs.Locks.{lock_by}
+use Rattle.file_log.specs.declared.call.Call.TheVariants.{TryLock}
+use Rattle.file_log.specs.declared.item.LogItem.{LogItem}
+use Rattle.file_log.specs.declared.item.LogItem.TheVariants as items
+use Rattle.file_log.specs.declared.reply.Reply.{Reply}
+use Rattle.file_log.specs.declared.reply.Reply.TheVariants.{Held}
+use Rattle.file_log.specs.Disk.{Disk, lock_in}
+use Rattle.file_log.specs.Effect.{applied}
+use Rattle.file_log.specs.Legal.{is_held}
+use Rattle.file_log.specs.Log.{is_own}
+use Rattle.file_log.specs.State.{State}
+
+-- ---- whose lock it is
+
+-- the folder in which a key's entry lies: the key's first byte
+abbrev pub folder_byte : Key → ℕ
+folder_byte key = get_or key.bytes 0 0
+
+-- the lock file of a key's folder
+abbrev pub lock_name : ℕ → Key → Name
+lock_name root key = FolderLock root (folder_byte key)
+
+-- no other seat holds the lock of the key's folder
+abbrev pub IsUnlocked : Who → ℕ → Key → Disk → Type 0
+IsUnlocked me root key d = is_held me (lock_in d (d.names (lock_name root key))) ≡ false
+
+-- a seat holds the lock of the key's folder, through one of its slots
+pub record HoldsLock (me : Who) (root : ℕ) (key : Key) (d : Disk) : Type 0 where
+  pub file : ℕ
+  pub slot : ℕ
+  pub named : d.names (lock_name root key) ≡ Some file
+  pub taken : d.locks file ≡ lock_by me slot
+
+-- ---- tries
+
+-- the replies to the TryLocks among these items, in their order
+abbrev pub lock_replies : List LogItem → List Reply
+lock_replies [] = []
+lock_replies (items.Did who (TryLock slot) reply ∷ log) = reply ∷ lock_replies log
+lock_replies (item ∷ log) = lock_replies log
+
+-- so many replies Held stand in a row
+pub record HeldInRow (count : ℕ) (replies : List Reply) : Type 0 where
+  pub before : List Reply
+  pub later : List Reply
+  pub replies_are : replies ≡ before ++ (replicate count Held ++ later)
+
+-- a TryLock is of a slot with the lock file of the key's folder
+abbrev pub TriesLock : ℕ → Key → Disk → LogItem → Type 0
+TriesLock root key d (items.Did who (TryLock slot) reply) = (file : ℕ) × (d.slots who slot ≡ Some file) × (d.names (lock_name root key) ≡ Some file)
+TriesLock root key d item = Unit {0}
+
+-- ---- what is done under it
+
+-- no name and no file is changed, but that the lock file may be there now, an empty one
+pub record MakesLockAlone (root : ℕ) (key : Key) (old new : Disk) : Type 0 where
+  pub names : (name : Name) → same_name name (lock_name root key) ≡ false → new.names name ≡ old.names name
+  pub kept : (file : ℕ) → old.names (lock_name root key) ≡ Some file → new.names (lock_name root key) ≡ Some file
+  pub files : (file : ℕ) → file < old.count → new.files file ≡ old.files file
+  pub empty : (file : ℕ) → new.names (lock_name root key) ≡ Some file → (old.names (lock_name root key) ≡ Some file) ⊎ (new.files file ≡ [])
+
+-- an item of this seat changes at most that, whatever others do
+abbrev pub OwnMakesLockAlone : Who → ℕ → Key → State → LogItem → Type 0
+OwnMakesLockAlone me root key s item = is_own me item ≡ true → MakesLockAlone root key s.disk (applied s.disk item)
+
+-- an item of this seat tries no other lock, and changes names and files under the lock alone
+pub record IsUnderLock (me : Who) (root : ℕ) (key : Key) (d : Disk) (item : LogItem) : Type 0 where
+  pub changes : MakesLockAlone root key d (applied d item) ⊎ HoldsLock me root key d
+  pub tries : TriesLock root key d item
+
+-- the lock file keeps its name
+abbrev pub KeepsLockName : ℕ → Key → Disk → Disk → Type 0
+KeepsLockName root key old new = (file : ℕ) → old.names (lock_name root key) ≡ Some file → new.names (lock_name root key) ≡ Some file
+
+-- this seat changes names and files under the lock alone, and other seats leave the lock file its name
+pub record ChangesUnderLock (me : Who) (root : ℕ) (key : Key) (s : State) (item : LogItem) : Type 0 where
+  pub mine : is_own me item ≡ true → IsUnderLock me root key s.disk item
+  pub others : is_own me item ≡ false → KeepsLockName root key s.disk (applied s.disk item)
