@@ -10,9 +10,13 @@ use Rattle.cache_types.specs.declared.row.Row.TheVariants as rows
 abbrev pub line_end : List ℕ
 line_end = codes "\n"
 
+-- a key's line: its digits
+abbrev pub key_line : Key → List ℕ
+key_line key = digits_of key ++ line_end
+
 -- one key a line
 abbrev pub key_lines : List Key → List ℕ
-key_lines keys = flat_map (λ key. digits_of key ++ line_end) keys
+key_lines keys = flat_map key_line keys
 
 -- the row's place in the index and a space, where it has one
 abbrev pub place_part : Option ℕ → List ℕ

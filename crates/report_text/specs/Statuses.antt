@@ -22,6 +22,7 @@ code_of statuses.Foreign = 13
 code_of (statuses.TooManyReadOnly n) = 14
 code_of (statuses.BrokenLog at) = 15
 code_of (statuses.BadLine line) = 16
+code_of statuses.NotBuilt = 17
 code_of (statuses.OtherHistory thread at) = 22
 
 -- what stands on standard error, before its newline
@@ -43,4 +44,5 @@ text_of statuses.Foreign = codes "not a Foz database"
 text_of (statuses.TooManyReadOnly n) = codes "too many read-only databases: " ++ decimal n
 text_of (statuses.BrokenLog at) = codes "broken log at " ++ decimal at
 text_of (statuses.BadLine line) = codes "bad line " ++ decimal line
+text_of statuses.NotBuilt = codes "layout not built"
 text_of (statuses.OtherHistory thread at) = codes "other history: thread " ++ (decimal thread ++ (codes " at " ++ decimal at))

@@ -29,6 +29,7 @@ pub fn fault_text(alloc: Global, status: &Status) -> Result<Text, NoMemory>
         Status::TooManyReadOnly(n) => format!(in alloc; "too many read-only databases: {n}")?,
         Status::BrokenLog(at) => format!(in alloc; "broken log at {at}")?,
         Status::BadLine(line) => format!(in alloc; "bad line {line}")?,
+        Status::NotBuilt => format!(in alloc; "layout not built")?,
         Status::OtherHistory(thread, at) => format!(in alloc;
             "other history: thread {thread} at {at}"
         )?,

@@ -7,11 +7,13 @@ mod fault;
 mod lines;
 mod outcome;
 mod printed;
+mod settings_lines;
 mod status;
 
 pub use fault::fault_text;
 pub use outcome::status_of;
-pub use printed::{answer_text, word_of};
+pub use printed::{answer_text, key_line, word_of};
+pub use settings_lines::settings_text;
 pub use status::Status;
 
 #[cfg(test)]

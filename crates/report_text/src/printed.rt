@@ -1,8 +1,10 @@
 ghost use Rattle.std.specs.Prelude.{◌≡◌, IfOk};
+ghost use Rattle.report_text.specs.Lines.{key_line};
 ghost use Rattle.report_text.specs.Printed.{printed, word_line};
 
 use crate::lines::{text_of_keys, text_of_rows};
-use cache_types::{Answer, Bytes, NoMemory, Request};
+use cache_key::key_text;
+use cache_types::{Answer, Bytes, Key, NoMemory, Request};
 use std::alloc::Global;
 
 /// The bytes that an answer to a request prints. A blob is copied: to write one, take its own bytes.
@@ -32,4 +34,13 @@ pub fn word_of(answer: &Answer) -> &'static str
         Answer::No => "no\n",
         _ => "",
     }
+}
+
+/// The line that the command `key` prints: the key's 40 digits in lower case, and a newline.
+pub fn key_line(alloc: Global, key: &Key) -> Result<Bytes, NoMemory>
+    ensures { IfOk result (λ bytes. bytes ≡ key_line key.now) }
+{
+    let digits = key_text(alloc, key)?;
+    let line = format!(in alloc; "{}\n", digits.as_str())?;
+    Ok(Bytes::from_vec(line.into_bytes()))
 }

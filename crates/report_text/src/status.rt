@@ -38,6 +38,8 @@ pub enum Status {
     BrokenLog(u64),
     /// This line of the input, counted from 1, isn't in the form.
     BadLine(u64),
+    /// The store's layout is one that the program can't serve yet.
+    NotBuilt,
     /// Of this thread, this operation isn't in the history as it was answered. Both count from 0.
     OtherHistory(u64, u64),
 }
@@ -65,6 +67,7 @@ impl Status {
             Status::TooManyReadOnly(_) => 14,
             Status::BrokenLog(_) => 15,
             Status::BadLine(_) => 16,
+            Status::NotBuilt => 17,
             Status::OtherHistory(_, _) => 22,
         }
     }

@@ -1,6 +1,8 @@
 use super::*;
-use cache_types::{Answer, Key, KeyList, NoMemory, Request, Row, RowList, Text};
+use cache_types::{Answer, Key, KeyList, Layout, NoMemory, Request, Row, RowList, Text, TextList};
+use settings_read::{CacheSettings, settings};
 use std::alloc::Global;
+use std::test::Fail;
 
 // Each status with its exit status and its text, written by hand from the program's page.
 #[test]
@@ -31,6 +33,7 @@ fn statuses(rt: HostRuntime) -> Result<(), NoMemory> {
         ),
         (Status::BrokenLog(0), 15, "broken log at 0"),
         (Status::BadLine(2), 16, "bad line 2"),
+        (Status::NotBuilt, 17, "layout not built"),
         (
             Status::OtherHistory(3, 10),
             22,
@@ -79,5 +82,70 @@ fn answers(rt: HostRuntime) -> Result<(), NoMemory> {
     assert!(rt; prints(alloc, &Answer::Trimmed(1), "trimmed 1\n")?);
     assert!(rt; prints(alloc, &Answer::Stored, "stored\n")?);
     assert_eq!(rt; word_of(&Answer::Miss), "");
+    Ok(())
+}
+
+// What `settings` prints where `HOME` alone is set.
+#[test]
+fn settings_of_home_alone(rt: HostRuntime) -> Result<(), Fail> {
+    let alloc = rt.alloc();
+    let vars = [(
+        String::from_str(alloc, "HOME")?,
+        String::from_str(alloc, "/home/u")?,
+    )];
+    let text = settings_text(alloc, &settings(alloc, &vars)?)?;
+    let wanted =
+        b"root /home/u/.cache/mesa_shader_cache_db\nlayout database\nmax 1073741824\nread-only -\nlist -\n";
+    assert!(rt; text.as_slice() == wanted.as_slice());
+    Ok(())
+}
+
+// What `settings` prints of each layout, of no name, one and three, and of a list.
+#[test]
+fn settings_of_each_layout(rt: HostRuntime) -> Result<(), NoMemory> {
+    let alloc = rt.alloc();
+    let table = [
+        (
+            Layout::Folder,
+            "",
+            "root /r\nlayout folder\nmax 18446744073709551615\nread-only -\nlist /l\n",
+        ),
+        (
+            Layout::Foz,
+            "one",
+            "root /r\nlayout foz\nmax 18446744073709551615\nread-only one\nlist /l\n",
+        ),
+        (
+            Layout::Database,
+            "b a -",
+            "root /r\nlayout database\nmax 18446744073709551615\nread-only b,a,-\nlist /l\n",
+        ),
+    ];
+    for (layout, names, wanted) in table {
+        let mut ro = TextList::new(alloc);
+        for name in names.split(' ').filter(|name| !name.is_empty()) {
+            ro.push(Text::of(alloc, name)?)?;
+        }
+        let settings = CacheSettings {
+            root: Text::of(alloc, "/r")?,
+            layout,
+            max: u64::MAX,
+            ro,
+            list: Some(Text::of(alloc, "/l")?),
+        };
+        let text = settings_text(alloc, &settings)?;
+        assert!(rt; text.as_slice() == wanted.as_bytes(), "{wanted}");
+    }
+    Ok(())
+}
+
+// What `key` prints.
+#[test]
+fn line_of_a_key(rt: HostRuntime) -> Result<(), NoMemory> {
+    let mut bytes = [0; 20];
+    bytes[0] = 0xa9;
+    bytes[19] = 0x0d;
+    let line = key_line(rt.alloc(), &Key { bytes })?;
+    assert!(rt; line.as_slice() == b"a90000000000000000000000000000000000000d\n".as_slice());
     Ok(())
 }

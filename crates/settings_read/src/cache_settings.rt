@@ -1,9 +1,12 @@
-ghost use Rattle.std.specs.Prelude.{◌≡◌, ◌↔◌, ℕ, IfOk, Err};
-ghost use Rattle.settings_read.specs.Variables.{texts_of, value_of, dynamic_list};
+ghost use Rattle.std.specs.Prelude.{◌≡◌, ◌↔◌, ℕ, IfOk, Ok, Err, None};
+ghost use Rattle.settings_read.specs.Variables.{texts_of};
+ghost use Rattle.settings_read.specs.Places.{base_of, root_from};
+ghost use Rattle.settings_read.specs.Overridden.{nothing_over, list_given};
 ghost use Rattle.settings_read.specs.Settings.{IsOff, HasNoRoot, HasTooMany, Refuses, AreGiven};
 
 use crate::names::{MAX_READ_ONLY, names_of_variable};
-use crate::places::{base_of, layout_of, root_in};
+use crate::overrides::Overrides;
+use crate::places::{base_of, layout_of_variables, root_in};
 use crate::size::size_of_text;
 use crate::variables::{DISABLE, DYNAMIC_LIST, MAX_SIZE, READ_ONLY, is_true, value_of};
 use cache_types::{Layout, NoMemory, Text, TextList};
@@ -24,12 +27,12 @@ pub struct CacheSettings {
     pub list: Option<Text>,
 }
 
-/// Why the variables give no settings: the first that applies, in this order.
+/// Why there are no settings: the first that applies, in this order.
 #[derive(Clone, Copy, Debug, PartialEq, Eq)]
 pub enum SettingsRefusal {
     /// The cache is turned off.
     Off,
-    /// No variable says where it lies.
+    /// Neither the words nor a variable say where it lies.
     NoRoot,
     /// So many different read-only databases are named, more than [`MAX_READ_ONLY`].
     TooManyReadOnly(u64),
@@ -50,7 +53,7 @@ impl From<NoMemory> for SettingsRefusal {
 
 /// The path of the list file, in memory of its own.
 fn list_of(alloc: Global, vars: &[(String, String)]) -> Result<Option<Text>, NoMemory>
-    ensures { IfOk result (λ list. list ≡ value_of (texts_of vars.now) dynamic_list) }
+    ensures { IfOk result (λ list. list ≡ list_given (texts_of vars.now)) }
 {
     match value_of(vars, DYNAMIC_LIST) {
         Some(path) => Ok(Some(Text::of(alloc, path)?)),
@@ -58,8 +61,29 @@ fn list_of(alloc: Global, vars: &[(String, String)]) -> Result<Option<Text>, NoM
     }
 }
 
-/// The settings that the variables give. Of a name the first pair counts, and an empty value counts as unset;
-/// variables that [`VARIABLES`](crate::VARIABLES) doesn't name change nothing.
+/// The root that is given, with its own memory, else the layout's where the variables say, if they do. Takes
+/// no memory where there is none.
+fn root_of(
+    alloc: Global,
+    vars: &[(String, String)],
+    given: Option<Text>,
+    layout: Layout,
+) -> Result<Option<Text>, NoMemory>
+    ensures root { IfOk result (λ root. root ≡ root_from given (base_of (texts_of vars.now)) layout) }
+    ensures none { root_from given (base_of (texts_of vars.now)) layout ≡ None → result ≡ Ok None }
+{
+    if given.is_some() {
+        return Ok(given);
+    }
+    match base_of(vars) {
+        Some(base) => Ok(Some(root_in(alloc, base, layout)?)),
+        None => Ok(None),
+    }
+}
+
+/// The settings that the variables give, where a command's words say nothing in their place. Of a name the
+/// first pair counts, and an empty value counts as unset; variables that [`VARIABLES`](crate::VARIABLES)
+/// doesn't name change nothing.
 ///
 /// # Errors
 ///
@@ -69,19 +93,46 @@ fn list_of(alloc: Global, vars: &[(String, String)]) -> Result<Option<Text>, NoM
 pub fn settings(alloc: Global, vars: &[(String, String)]) -> Result<CacheSettings, SettingsRefusal>
     // It is off, or has no root, exactly where that is said.
     ensures off { (result ≡ Err SettingsRefusal.Off) ↔ IsOff (texts_of vars.now) }
-    ensures no_root { (result ≡ Err SettingsRefusal.NoRoot) ↔ HasNoRoot (texts_of vars.now) }
+    ensures no_root { (result ≡ Err SettingsRefusal.NoRoot) ↔ HasNoRoot (texts_of vars.now) nothing_over }
 
     // Too many names are refused with their number; want of memory alone may stand in its place.
-    ensures too_many { (n : ℕ) → HasTooMany (texts_of vars.now) n → Refuses result (SettingsRefusal.TooManyReadOnly n) }
-    ensures number { (n : ℕ) → result ≡ Err (SettingsRefusal.TooManyReadOnly n) → HasTooMany (texts_of vars.now) n }
+    ensures too_many { (n : ℕ) → HasTooMany (texts_of vars.now) nothing_over n → Refuses result (SettingsRefusal.TooManyReadOnly n) }
+    ensures number { (n : ℕ) → result ≡ Err (SettingsRefusal.TooManyReadOnly n) → HasTooMany (texts_of vars.now) nothing_over n }
 
     // Settings are those that the variables give, and nothing is to be refused.
-    ensures given { IfOk result (AreGiven (texts_of vars.now)) }
+    ensures given { IfOk result (AreGiven (texts_of vars.now) nothing_over) }
+{
+    settings_over(alloc, vars, Overrides::none())
+}
+
+/// The settings that the variables give, but for what a command's words say in their place: a root that is
+/// given is the root as it is, and its memory moves into the settings; a layout also names the folder of a
+/// root that the variables give; a limit replaces the size, whatever it is. Else as [`settings`].
+///
+/// # Errors
+///
+/// As those of [`settings`]. With a root given there is no `NoRoot`.
+pub fn settings_over(
+    alloc: Global,
+    vars: &[(String, String)],
+    over: Overrides,
+) -> Result<CacheSettings, SettingsRefusal>
+    // It is off, or has no root, exactly where that is said.
+    ensures off { (result ≡ Err SettingsRefusal.Off) ↔ IsOff (texts_of vars.now) }
+    ensures no_root { (result ≡ Err SettingsRefusal.NoRoot) ↔ HasNoRoot (texts_of vars.now) over }
+
+    // Too many names are refused with their number; want of memory alone may stand in its place.
+    ensures too_many { (n : ℕ) → HasTooMany (texts_of vars.now) over n → Refuses result (SettingsRefusal.TooManyReadOnly n) }
+    ensures number { (n : ℕ) → result ≡ Err (SettingsRefusal.TooManyReadOnly n) → HasTooMany (texts_of vars.now) over n }
+
+    // Settings are those that words and variables give, and nothing is to be refused.
+    ensures given { IfOk result (AreGiven (texts_of vars.now) over) }
 {
     if is_true(vars, DISABLE) {
         return Err(SettingsRefusal::Off);
     }
-    let Some(base) = base_of(vars) else {
+    let layout = over.layout.unwrap_or(layout_of_variables(vars));
+    let Some(root) = root_of(alloc, vars, over.root, layout)? else {
         return Err(SettingsRefusal::NoRoot);
     };
     let ro = names_of_variable(alloc, value_of(vars, READ_ONLY).unwrap_or(""))?;
@@ -89,11 +140,11 @@ pub fn settings(alloc: Global, vars: &[(String, String)]) -> Result<CacheSetting
     if named > MAX_READ_ONLY {
         return Err(SettingsRefusal::TooManyReadOnly(named as u64));
     }
-    let layout = layout_of(vars);
+    let spelled = size_of_text(value_of(vars, MAX_SIZE).unwrap_or(""));
     Ok(CacheSettings {
-        root: root_in(alloc, base, layout)?,
+        root,
         layout,
-        max: size_of_text(value_of(vars, MAX_SIZE).unwrap_or("")),
+        max: over.limit.unwrap_or(spelled),
         ro,
         list: list_of(alloc, vars)?,
     })

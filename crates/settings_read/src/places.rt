@@ -1,6 +1,6 @@
 ghost use Rattle.std.specs.Prelude.{◌≡◌, ◌++◌, IfOk, option_map};
 ghost use Rattle.settings_read.specs.Variables.{texts_of};
-ghost use Rattle.settings_read.specs.Places.{layout_of, base_of, folder_of, root_in};
+ghost use Rattle.settings_read.specs.Places.{layout_of_variables, base_of, folder_of, root_in};
 
 use crate::variables::{
     CACHE_DIR, HOME, MULTI_FILE, SINGLE_FILE, XDG_CACHE_HOME, is_true, value_of,
@@ -18,8 +18,8 @@ pub struct Base<'a> {
 }
 
 /// The layout that the variables ask for.
-pub fn layout_of(vars: &[(String, String)]) -> Layout
-    ensures { result ≡ layout_of (texts_of vars.now) }
+pub fn layout_of_variables(vars: &[(String, String)]) -> Layout
+    ensures { result ≡ layout_of_variables (texts_of vars.now) }
 {
     if is_true(vars, MULTI_FILE) {
         Layout::Folder

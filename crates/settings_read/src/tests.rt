@@ -1,5 +1,5 @@
 use super::*;
-use cache_types::{Layout, TextList};
+use cache_types::{Layout, Text, TextList};
 use std::alloc::Global;
 use std::process::Abort;
 use std::test::Fail;
@@ -127,6 +127,27 @@ fn read(
     Ok(settings(alloc, pairs.as_slice()))
 }
 
+/// What the variables give where a command has these words, or why they give nothing.
+fn read_over(
+    alloc: Global,
+    vars: &[(&str, &str)],
+    root: Option<&str>,
+    layout: Option<Layout>,
+    limit: Option<u64>,
+) -> Result<Result<CacheSettings, SettingsRefusal>, Fail> {
+    let pairs = pairs(alloc, vars)?;
+    let root = match root {
+        Some(root) => Some(Text::of(alloc, root)?),
+        None => None,
+    };
+    let over = Overrides {
+        root,
+        layout,
+        limit,
+    };
+    Ok(settings_over(alloc, pairs.as_slice(), over))
+}
+
 #[test]
 fn variables_that_are_read(rt: HostRuntime) {
     for name in [
@@ -210,5 +231,84 @@ fn refusals_in_order(rt: HostRuntime) -> Result<(), Fail> {
     let too_many = read(rt.alloc(), &[("HOME", "/home/u"), nine])?;
     assert!(rt; matches!(too_many, Err(SettingsRefusal::TooManyReadOnly(9))));
     assert!(rt; matches!(read(rt.alloc(), &[])?, Err(SettingsRefusal::NoRoot)));
+    Ok(())
+}
+
+#[test]
+fn words_in_place_of_variables(rt: HostRuntime) -> Result<(), Fail> {
+    let vars = [
+        ("MESA_DISK_CACHE_MULTI_FILE", "1"),
+        ("MESA_SHADER_CACHE_DIR", "/c"),
+        ("MESA_SHADER_CACHE_MAX_SIZE", "512M"),
+        ("MESA_DISK_CACHE_READ_ONLY_FOZ_DBS", "b,a"),
+        ("MESA_DISK_CACHE_READ_ONLY_FOZ_DBS_DYNAMIC_LIST", "/l"),
+    ];
+    let root = Some("/r");
+    let foz = Some(Layout::Foz);
+    let limit = Some(300);
+    let table = [
+        (
+            None,
+            None,
+            None,
+            "/c/mesa_shader_cache",
+            Layout::Folder,
+            536_870_912,
+        ),
+        (
+            None,
+            None,
+            limit,
+            "/c/mesa_shader_cache",
+            Layout::Folder,
+            300,
+        ),
+        (
+            None,
+            foz,
+            None,
+            "/c/mesa_shader_cache_sf",
+            Layout::Foz,
+            536_870_912,
+        ),
+        (
+            None,
+            foz,
+            limit,
+            "/c/mesa_shader_cache_sf",
+            Layout::Foz,
+            300,
+        ),
+        (root, None, None, "/r", Layout::Folder, 536_870_912),
+        (root, None, limit, "/r", Layout::Folder, 300),
+        (root, foz, None, "/r", Layout::Foz, 536_870_912),
+        (root, foz, limit, "/r", Layout::Foz, 300),
+    ];
+    for (root, layout, limit, wanted_root, wanted_layout, wanted_max) in table {
+        let given = read_over(rt.alloc(), &vars, root, layout, limit)??;
+        assert_eq!(rt; given.root.as_str(), wanted_root);
+        assert_eq!(rt; given.layout, wanted_layout);
+        assert_eq!(rt; given.max, wanted_max);
+        expect_names(&rt, &given.ro, "b,a");
+        let list = given.list.ok_or("no list")?;
+        assert_eq!(rt; list.as_str(), "/l");
+    }
+    Ok(())
+}
+
+#[test]
+fn words_without_variables(rt: HostRuntime) -> Result<(), Fail> {
+    let given = read_over(rt.alloc(), &[], Some("relative/r"), None, Some(0))??;
+    assert_eq!(rt; given.root.as_str(), "relative/r");
+    assert_eq!(rt; given.layout, Layout::Database);
+    assert_eq!(rt; given.max, 0);
+    let no_root = read_over(rt.alloc(), &[], None, Some(Layout::Folder), Some(1))?;
+    assert!(rt; matches!(no_root, Err(SettingsRefusal::NoRoot)));
+    let off = [("MESA_SHADER_CACHE_DISABLE", "Y"), ("HOME", "/home/u")];
+    let off = read_over(rt.alloc(), &off, Some("/r"), None, None)?;
+    assert!(rt; matches!(off, Err(SettingsRefusal::Off)));
+    let nine = [("MESA_DISK_CACHE_READ_ONLY_FOZ_DBS", "1,2,3,4,5,6,7,8,9")];
+    let nine = read_over(rt.alloc(), &nine, Some("/r"), None, None)?;
+    assert!(rt; matches!(nine, Err(SettingsRefusal::TooManyReadOnly(9))));
     Ok(())
 }

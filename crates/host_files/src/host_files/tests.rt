@@ -18,7 +18,7 @@ const ME: Who = Who {
     seat: 0,
 };
 
-/// A seat's files, with a root that is a folder and a root that is a plain file in it.
+/// A seat's files, with a root that is a folder and a root that is a plain file in it, and with no list.
 fn files_under<R: RealFiles<File = File> + Clock + Drop>(
     alloc: Global,
     rt: R,
@@ -32,6 +32,23 @@ fn files_under<R: RealFiles<File = File> + Clock + Drop>(
     let paths = Paths {
         roots: TextList::of(alloc, &roots)?,
         list: None,
+    };
+    HostFiles::new(alloc, rt, ME, paths)
+}
+
+/// A seat's files, with one root and a list.
+fn files_with_list<R: RealFiles<File = File> + Clock + Drop>(
+    alloc: Global,
+    rt: R,
+    folder: &str,
+    list: &str,
+) -> Result<HostFiles<R>, NoMemory>
+    ensures { IfOk result (λ f. IsIdle (⟦<HostFiles<R> as Files>⟧.seen f)) }
+{
+    let roots = [Text::of(alloc, folder)?];
+    let paths = Paths {
+        roots: TextList::of(alloc, &roots)?,
+        list: Some(Text::of(alloc, list)?),
     };
     HostFiles::new(alloc, rt, ME, paths)
 }
@@ -137,6 +154,47 @@ fn reads_what_stands_there(rt: HostRuntime) -> io::Result<()> {
     ];
     for (name, want) in names {
         let Ok(mut files) = files_under(alloc, rt, folder) else {
+            panic!(rt; "no memory");
+        };
+        assert_eq!(rt; word(&look_up(&mut files, name)), want);
+    }
+    fs::remove_dir_all(&rt, folder)
+}
+
+/// The name of a read-only database's main file, or of its index.
+fn ro_name(alloc: Global, name: &str, is_index: bool) -> Result<Name, NoMemory> {
+    let name = Text::of(alloc, name)?;
+    Ok(if is_index {
+        Name::RoIdx { root: 0, name }
+    } else {
+        Name::Ro { root: 0, name }
+    })
+}
+
+#[test]
+fn reads_read_only_databases_and_their_list(rt: HostRuntime) -> io::Result<()> {
+    let alloc = rt.alloc();
+    let folder = "reads_read_only_databases";
+    let list = "reads_read_only_databases/names";
+    let _ = fs::remove_dir_all(&rt, folder);
+    fs::create_dir(&rt, folder)?;
+    fs::write(&rt, list, "abc")?;
+    fs::write(&rt, "reads_read_only_databases/a2.foz", "abc")?;
+    fs::write(&rt, "reads_read_only_databases/b_idx.foz", "abc")?;
+    fs::write(&rt, "reads_read_only_databases/foz_cache.foz", "abc")?;
+
+    let names = [
+        (ro_name(alloc, "a2", false), "abc"),
+        (ro_name(alloc, "a2", true), "missing"),
+        (ro_name(alloc, "b", false), "missing"),
+        (ro_name(alloc, "b", true), "abc"),
+        (ro_name(alloc, "foz_cache", false), "failed"),
+        (ro_name(alloc, "b_idx", false), "failed"),
+        (ro_name(alloc, "", true), "failed"),
+        (Ok(Name::List), "abc"),
+    ];
+    for (name, want) in names {
+        let (Ok(name), Ok(mut files)) = (name, files_with_list(alloc, rt, folder, list)) else {
             panic!(rt; "no memory");
         };
         assert_eq!(rt; word(&look_up(&mut files, name)), want);
