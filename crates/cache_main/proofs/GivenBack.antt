@@ -21,6 +21,7 @@ use Rattle.item_frame.proofs.Laws.{reads_one}
 use Rattle.folder_store.specs.Holds.{FileReads, FolderHolds, FindsOrFails}
 use Rattle.folder_store.specs.Lookup.{IsLookupAnswer, LooksUp, LookedUp}
 use Rattle.folder_store.specs.Put.{IsPutAnswer, Leaves, PutDone}
+use Rattle.folder_store.proofs.Unlocked.{lone_unlocked}
 use Rattle.report_text.specs.declared.status.Status.{Status}
 use Rattle.report_text.specs.declared.status.Status.TheVariants as statuses
 use Rattle.cache_main.specs.Printing.{IsPrinted}
@@ -54,6 +55,7 @@ module _ (driver : DriverKeys) (key : Key) (blob : List ℕ) (left left' written
   by_put request answers.Kept kind leaves (inl p) =
       let stays = subst (λ (file : Option (List ℕ)). FileReads file driver leaves.0.0) (sym (same_file old new leaves.1 (Entry 0 key))) leaves.0.1 in
       record { line = codes "kept\n"; blob = leaves.0.0; held = stays; lines = inr refl; added = p.1.added }
+  by_put request answers.Busy kind leaves (inl p) = absurd leaves
   by_put request answers.FilesFault kind leaves (inl p) = let clash : statuses.Ok ≡ statuses.FilesFault = p.0 in absurd cc
   by_put request answers.NoMemory kind leaves (inl p) = let clash : statuses.Ok ≡ statuses.NoMemory = p.0 in absurd cc
   by_put request answer kind leaves (inl p) = absurd kind
@@ -113,8 +115,28 @@ given_back me driver key blob put get stored found status (Some h) mid new befor
     let h' = with_items h n1 in
     let told = subst (λ (o : Option History). Grows o new (LooksUp me get 0 driver key found)) done.told.1 looked.told in
     let all = subst (IsLone me) told.1 lone' in
-    let alone = done.told.2.alone (mine_first me h n1 told.0 all) in
+    let alone = done.told.2.alone (mine_first me h n1 told.0 all) (lone_unlocked me 0 key h lone) in
     let kept = by_put driver key blob left left' w w' f f' whole (disk_of h) (disk_of h') put stored done.kind alone.leaves printed in
     let mine = mine_last me h n1 told.0 all in
     let lasts = λ (b : List ℕ) (held : FolderHolds (disk_of h') 0 driver key b). subst (λ (o : Option History). HoldsAfter o driver key b) (sym told.1) (lasting me h' told.0 driver key b mine told.2.still held) in
     by_get driver key (disk_of h') new before between now left left' w w' w'' f f' f'' kept lasts later more get found status looked.kind (told.2.finds mine) looked.cause shown
+
+-- ---- a put that is not busy, where no other seat has an item
+
+-- a log of one seat alone was its alone before it grew
+lone_before : (P : History → List LogItem → Type 0) (me : Who) (h : History) (new : Option History) → (new ≡ Some h) ⊎ Grows (Some h) new P → IsLone me new → own me h.log ≡ h.log
+lone_before P me h new (inl same) lone = subst (IsLone me) same lone
+lone_before P me h new (inr told) lone =
+    let all = subst (IsLone me) told.1 lone in
+    own_back me h.log (first_own me h.log told.0 (are_own me (h.log ++ told.0) all))
+
+pub never_busy : (P : History → List LogItem → Type 0) (me : Who) (driver : DriverKeys) (key : Key) (blob : List ℕ) (put : Request) (old mid new : Option History) (before between : ℕ)
+    → PutDone me put 0 driver key blob old mid before between answers.Busy → (new ≡ mid) ⊎ Grows mid new P → IsLone me old → IsLone me new → ⊥
+never_busy P me driver key blob put None mid new before between done goes lone lone' = absurd lone
+never_busy P me driver key blob put (Some h) mid new before between done goes lone lone' =
+    let n1 = done.told.0 in
+    let h' = with_items h n1 in
+    let grew = subst (λ (o : Option History). (new ≡ o) ⊎ Grows o new P) done.told.1 goes in
+    let mine = last_own me h.log n1 (are_own me (h.log ++ n1) (lone_before P me h' new grew lone')) in
+    let alone = done.told.2.alone (own_back me n1 mine) (lone_unlocked me 0 key h lone) in
+    alone.leaves

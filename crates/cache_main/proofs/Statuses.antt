@@ -12,7 +12,8 @@ use Rattle.report_text.specs.Outcomes.{status_of_answer}
 use Rattle.cache_main.specs.declared.reading.ReadRefusal.{ReadRefusal}
 use Rattle.cache_main.specs.declared.reading.ReadRefusal.TheVariants as refusals
 use Rattle.cache_main.specs.Printing.{IsPrinted}
-use Rattle.cache_main.specs.Top.{IsRefused, IsUnread, status_of_refusal}
+use Rattle.cache_main.specs.Reading.{status_of_refusal}
+use Rattle.cache_main.specs.Top.{IsRefused, IsUnread}
 
 -- an answer that a get or a put ends with
 abbrev pub IsEnd : Answer → Type 0
@@ -20,6 +21,7 @@ IsEnd (answers.Hit blob) = Unit {0}
 IsEnd answers.Miss = Unit {0}
 IsEnd answers.Stored = Unit {0}
 IsEnd answers.Kept = Unit {0}
+IsEnd answers.Busy = Unit {0}
 IsEnd answers.FilesFault = Unit {0}
 IsEnd answers.NoMemory = Unit {0}
 IsEnd answer = ⊥
@@ -34,6 +36,7 @@ lookup_ends a k = absurd k
 pub put_ends : (a : Answer) → IsPutAnswer a → IsEnd a
 put_ends answers.Stored k = tt
 put_ends answers.Kept k = tt
+put_ends answers.Busy k = tt
 put_ends answers.FilesFault k = tt
 put_ends answers.NoMemory k = tt
 put_ends a k = absurd k
@@ -44,6 +47,7 @@ apart (answers.Hit blob) k e = elim e [ inl r ↦ r | inr u ↦ u ]
 apart answers.Miss k e = elim e [ inl r ↦ r | inr u ↦ u ]
 apart answers.Stored k e = elim e [ inl r ↦ r | inr u ↦ u ]
 apart answers.Kept k e = elim e [ inl r ↦ r | inr u ↦ u ]
+apart answers.Busy k e = elim e [ inl r ↦ r | inr u ↦ u ]
 apart answers.FilesFault k e = elim e [ inl r ↦ r | inr u ↦ u ]
 apart answers.NoMemory k e = elim e [ inl r ↦ r | inr u ↦ u ]
 apart a k e = k
@@ -53,6 +57,7 @@ no_write_fault (answers.Hit blob) k e = cc
 no_write_fault answers.Miss k e = cc
 no_write_fault answers.Stored k e = cc
 no_write_fault answers.Kept k e = cc
+no_write_fault answers.Busy k e = cc
 no_write_fault answers.FilesFault k e = cc
 no_write_fault answers.NoMemory k e = cc
 no_write_fault a k e = absurd k
@@ -62,9 +67,19 @@ fault_back (answers.Hit blob) k e = absurd cc
 fault_back answers.Miss k e = absurd cc
 fault_back answers.Stored k e = absurd cc
 fault_back answers.Kept k e = absurd cc
+fault_back answers.Busy k e = absurd cc
 fault_back answers.FilesFault k e = refl
 fault_back answers.NoMemory k e = absurd cc
 fault_back a k e = absurd k
+
+-- a put that ended as busy is one that was
+pub busy_back : (a : Answer) → IsPutAnswer a → status_of_answer a ≡ statuses.Busy → a ≡ answers.Busy
+busy_back answers.Stored k e = absurd cc
+busy_back answers.Kept k e = absurd cc
+busy_back answers.Busy k e = refl
+busy_back answers.FilesFault k e = absurd cc
+busy_back answers.NoMemory k e = absurd cc
+busy_back a k e = absurd k
 
 pub printed_later : (request : Request) (a : Answer) (status : Status) (old new : Option (List ℕ)) (before now : ℕ) → IsPrinted request a status old new before now → before ≤ now
 printed_later request a status old new before now p = elim p [ inl whole ↦ whole.1.later | inr cut ↦ cut.1.later ]

@@ -1,6 +1,12 @@
 pub mod Words
+pub mod Settings
+pub mod Keys
+pub mod Admission
 pub mod Reading
 pub mod Requests
 pub mod Printing
+pub mod Served
 pub mod Top
+pub mod Ends
+pub mod Paths
 pub mod RoundTrip

@@ -23,9 +23,16 @@ pub record IsWhole (bytes : List ℕ) (old new : Option (List ℕ)) (before now 
   pub added : IsAdded old new bytes
   pub later : before ≤ now
 
+-- all of them, or a first part
 abbrev pub Writes : Bool → List ℕ → Option (List ℕ) → Option (List ℕ) → ℕ → ℕ → Type 0
 Writes true bytes old new before now = IsWhole bytes old new before now
 Writes false bytes old new before now = IsCutOff bytes old new before now
+
+-- the bytes were written, and the call ends as it has to; or a first part of them, and the sink failed
+abbrev pub IsWritten : List ℕ → Status → Status → Option (List ℕ) → Option (List ℕ) → ℕ → ℕ → Type 0
+IsWritten bytes ending status old new before now =
+    ((status ≡ ending) × IsWhole bytes old new before now)
+    ⊎ ((status ≡ WriteFault) × IsCutOff bytes old new before now)
 
 -- an answer that prints a blob, a word or nothing
 abbrev pub IsBlobOrWord : Answer → Type 0
@@ -36,6 +43,4 @@ IsBlobOrWord answer = Unit {0}
 
 -- the bytes of the answer were written, and the status is the answer's; or a first part of them, and the sink failed
 abbrev pub IsPrinted : Request → Answer → Status → Option (List ℕ) → Option (List ℕ) → ℕ → ℕ → Type 0
-IsPrinted request answer status old new before now =
-    ((status ≡ status_of_answer answer) × IsWhole (printed request answer) old new before now)
-    ⊎ ((status ≡ WriteFault) × IsCutOff (printed request answer) old new before now)
+IsPrinted request answer status old new before now = IsWritten (printed request answer) (status_of_answer answer) status old new before now

@@ -4,6 +4,8 @@ use Rattle.cache_types.specs.declared.limits.TheConstants.{MAX_BLOB}
 use Rattle.file_log.specs.Told.{Rose}
 use Rattle.cache_main.specs.declared.reading.ReadRefusal.{ReadRefusal}
 use Rattle.cache_main.specs.declared.reading.ReadRefusal.TheVariants as refusals
+use Rattle.report_text.specs.declared.status.Status.{Status}
+use Rattle.report_text.specs.declared.status.Status.TheVariants as statuses
 
 -- where the source tells its bytes, they were these and the rest, and the rest is left
 abbrev pub IsTaken : Option (List ℕ) → Option (List ℕ) → List ℕ → Type 0
@@ -39,3 +41,16 @@ ReadsToEnd (Ok blob) old new before now = IsWholeBlob old new blob
 ReadsToEnd (Err (refusals.TooLarge count)) old new before now = TakesTooMany count old new
 ReadsToEnd (Err refusals.ReadFault) old new before now = Rose before now
 ReadsToEnd (Err refusals.NoMemory) old new before now = Unit {0}
+
+-- the status of a source that gave no blob
+abbrev pub status_of_refusal : ReadRefusal → Status
+status_of_refusal refusals.ReadFault = statuses.ReadFault
+status_of_refusal (refusals.TooLarge count) = statuses.TooLarge count
+status_of_refusal refusals.NoMemory = statuses.NoMemory
+
+-- why nothing was done with what was read: the source failed, it has too many bytes, or there was no memory
+abbrev pub EndsUnread : Status → Option (List ℕ) → Option (List ℕ) → ℕ → ℕ → Type 0
+EndsUnread statuses.ReadFault old new before now = Rose before now
+EndsUnread (statuses.TooLarge count) old new before now = TakesTooMany count old new
+EndsUnread statuses.NoMemory old new before now = Unit {0}
+EndsUnread status old new before now = ⊥

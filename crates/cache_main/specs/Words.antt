@@ -1,67 +1,50 @@
--- The words that ask for something.
-use Rattle.std.specs.Prelude.{◌≡◌, ◌≢◌, ◌⊎◌, ℕ, List, [], ◌∷◌, ◌++◌, get_or, codes, Option, Some, None}
-use Rattle.cache_types.specs.Driver.{IsDriverText}
-use Rattle.cache_main.specs.declared.words.Command.{Command}
-use Rattle.cache_main.specs.declared.words.Command.TheVariants as commands
-use Rattle.cache_main.specs.declared.words.AskWords.{AskWords}
+-- What the words of the command line ask for.
+use Rattle.std.specs.Prelude.{◌≡◌, ℕ, Bool, true, false, if◌then◌else◌, List, Option, Some, None}
+use Rattle.cmd_words.specs.declared.command.Command.{Command}
+use Rattle.cmd_words.specs.declared.word.Word.{Word}
+use Rattle.cmd_words.specs.declared.word.Word.TheVariants as commands
+use Rattle.cmd_words.specs.Reading.{reading_of}
 
--- a command, and the driver, the root and the key that the words give, as texts
-pub record Ask : Type 0 where
-  pub command : Command
-  pub id : List ℕ
-  pub gpu : List ℕ
-  pub root : List ℕ
-  pub key : List ℕ
+-- the commands that are served today
+abbrev pub is_served : Word → Bool
+is_served commands.Key = true
+is_served commands.Put = true
+is_served commands.Get = true
+is_served commands.Settings = true
+is_served word = false
 
--- the first word
-abbrev pub word_of : Command → List ℕ
-word_of commands.Get = codes "get"
-word_of commands.Put = codes "put"
+-- a reading, where its command is served
+abbrev pub served_of : Option Command → Option Command
+served_of None = None
+served_of (Some command) = if is_served command.word then Some command else None
 
--- the last three words
-abbrev pub last_words : Ask → List (List ℕ)
-last_words a = codes "--layout=folder" ∷ (codes "--root=" ++ a.root) ∷ a.key ∷ []
+-- the command that the words ask for: their reading, where it is served
+unfoldable pub asked : List (List ℕ) → Option Command
+asked words = served_of (reading_of words)
 
--- without a driver it is that of the id `mesa` and the GPU name `generic`
-abbrev pub IsPlain : List (List ℕ) → Ask → Type 0
-IsPlain words a = (words ≡ word_of a.command ∷ last_words a) × (a.id ≡ codes "mesa") × (a.gpu ≡ codes "generic")
+-- they ask for nothing that is served
+abbrev pub HasNoReading : Option Command → Type 0
+HasNoReading asked = asked ≡ None
 
-abbrev pub IsForDriver : List (List ℕ) → Ask → Type 0
-IsForDriver words a = words ≡ word_of a.command ∷ (codes "--id=" ++ a.id) ∷ (codes "--gpu=" ++ a.gpu) ∷ last_words a
+-- ---- what the commands have in common
 
--- a text that can stand in a driver, and isn't empty
-abbrev pub IsDriverWord : List ℕ → Type 0
-IsDriverWord text = IsDriverText text × (text ≢ [])
+-- every command but `key` needs settings
+abbrev pub NeedsSettings : Word → Type 0
+NeedsSettings commands.Key = ⊥
+NeedsSettings word = Unit {0}
 
--- values that can be asked for: the driver is one, no value is empty, and the key begins with no dash
-pub record IsFit (a : Ask) : Type 0 where
-  pub id : IsDriverWord a.id
-  pub gpu : IsDriverWord a.gpu
-  pub root : a.root ≢ []
-  pub key : get_or a.key 0 0 ≢ 45
+-- a put and a get are operations on the store
+abbrev pub IsOperation : Word → Type 0
+IsOperation commands.Put = Unit {0}
+IsOperation commands.Get = Unit {0}
+IsOperation word = ⊥
 
--- `get` or `put`, and then `[--id=I --gpu=G] --layout=folder --root=R KEY`, in this order
-pub record IsAsk (words : List (List ℕ)) (a : Ask) : Type 0 where
-  pub spelled : IsPlain words a ⊎ IsForDriver words a
-  pub fit : IsFit a
+-- a put and `key` read the source
+abbrev pub ReadsSource : Word → Type 0
+ReadsSource commands.Put = Unit {0}
+ReadsSource commands.Key = Unit {0}
+ReadsSource word = ⊥
 
--- the words ask for nothing
-abbrev pub HasNoReading : List (List ℕ) → Type 0
-HasNoReading words = (a : Ask) → IsAsk words a → ⊥
-
--- they ask for this command
-abbrev pub AsksFor : Command → List (List ℕ) → Type 0
-AsksFor command words = (a : Ask) × IsAsk words a × (a.command ≡ command)
-
--- what was found of them
-abbrev pub ask_of : AskWords → Ask
-ask_of found = record { command = found.command; id = found.id.now; gpu = found.gpu.now; root = found.root.now; key = found.key.now }
-
--- what the words ask for was found, or they ask for nothing
-abbrev pub Finds : List (List ℕ) → Option AskWords → Type 0
-Finds words None = HasNoReading words
-Finds words (Some found) = IsAsk words (ask_of found)
-
--- these roots are the one that the words name
-abbrev pub HasRoot : List (List ℕ) → List (List ℕ) → Type 0
-HasRoot words roots = (a : Ask) × IsAsk words a × (roots ≡ a.root ∷ [])
+-- every other command leaves it
+abbrev pub LeavesSource : Word → Type 0
+LeavesSource word = ReadsSource word → ⊥

@@ -1,12 +1,11 @@
-ghost use Rattle.std.specs.Prelude.{◌≡◌};
-ghost use Rattle.cache_main.specs.Printing.{Writes, IsBlobOrWord, IsPrinted};
+ghost use Rattle.cache_main.specs.Printing.{Writes, IsWritten, IsBlobOrWord, IsPrinted};
 
 use cache_types::Answer;
 use files_api::{Sink, Took};
 use report_text::{Status, status_of, word_of};
 
 /// Writes bytes to a sink until all are written or it fails, and whether all are.
-pub fn write_all<K: Sink>(out: &mut K, bytes: &[u8]) -> bool
+fn write_all<K: Sink>(out: &mut K, bytes: &[u8]) -> bool
     ensures { Writes result bytes.now (K.written out.old) (K.written out.new) (K.faults out.old) (K.faults out.new) }
 {
     let mut rest = bytes;
@@ -19,6 +18,17 @@ pub fn write_all<K: Sink>(out: &mut K, bytes: &[u8]) -> bool
     true
 }
 
+/// Prints some bytes, and what the call ends with: this status, or a write fault. Takes no memory.
+pub fn print<K: Sink>(out: &mut K, bytes: &[u8], ending: Status) -> Status
+    ensures { IsWritten bytes.now ending result (K.written out.old) (K.written out.new) (K.faults out.old) (K.faults out.new) }
+{
+    if write_all(out, bytes) {
+        ending
+    } else {
+        Status::WriteFault
+    }
+}
+
 /// Prints an answer: a blob from its own bytes, or a word. Takes no memory.
 pub fn print_answer<K: Sink>(out: &mut K, answer: &Answer) -> Status
     requires { IsBlobOrWord answer.now }
@@ -28,9 +38,5 @@ pub fn print_answer<K: Sink>(out: &mut K, answer: &Answer) -> Status
         Answer::Hit(blob) => blob.as_slice(),
         other => word_of(other).as_bytes(),
     };
-    if write_all(out, text) {
-        status_of(answer)
-    } else {
-        Status::WriteFault
-    }
+    print(out, text, status_of(answer))
 }

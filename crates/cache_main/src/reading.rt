@@ -1,9 +1,10 @@
 ghost use Rattle.std.specs.Prelude.{◌≡◌, ◌≤◌, ◌<◌, ◌+◌, take, drop, OnOk, vec_len};
 ghost use Rattle.files_api.specs.Streams.{IsRead, HasFault};
-ghost use Rattle.cache_main.specs.Reading.{ReadsToEnd, TakesAtMost};
+ghost use Rattle.cache_main.specs.Reading.{ReadsToEnd, TakesAtMost, status_of_refusal};
 
 use cache_types::{Bytes, MAX_BLOB, NoMemory};
 use files_api::{Source, Took};
+use report_text::Status;
 use std::alloc::Global;
 
 /// Why a source gave no blob.
@@ -15,6 +16,19 @@ pub enum ReadRefusal {
     TooLarge(u64),
     /// Memory ran out.
     NoMemory,
+}
+
+impl ReadRefusal {
+    /// The status that it ends a call with.
+    pub fn status(self) -> Status
+        ensures { result ≡ status_of_refusal self }
+    {
+        match self {
+            ReadRefusal::ReadFault => Status::ReadFault,
+            ReadRefusal::TooLarge(count) => Status::TooLarge(count),
+            ReadRefusal::NoMemory => Status::NoMemory,
+        }
+    }
 }
 
 /// So much room is made first.

@@ -1,18 +1,17 @@
 ghost use Rattle.std.specs.Prelude.{◌≡◌, ◌≤◌, ◌+◌, IfOk};
 ghost use Rattle.cache_main.specs.Reading.{TakesAtMost};
 ghost use Rattle.cache_main.specs.Requests.{request_for as the_request_for, request_of as the_request_of, TakesBlob};
-ghost use Rattle.cache_main.specs.Words.{IsFit, ask_of};
+ghost use Rattle.cache_main.specs.Words.{ReadsSource};
+ghost use Rattle.cmd_words.specs.Known.{IsKnown};
 
+use crate::admission::Admitted;
+use crate::driver::driver_of;
+use crate::keys::NamedKeys;
 use crate::reading::{ReadRefusal, read_source};
-use crate::words::{AskWords, Command};
-use cache_types::{
-    Bytes, Driver, Key, Layout, MAX_BLOB, Meta, NoMemory, Request, RoPlan, Store, TextList,
-};
+use cache_types::{Bytes, Driver, Layout, MAX_BLOB, NoMemory, Request, RoPlan, Store, TextList};
+use cmd_words::{Command, Word};
 use files_api::Source;
 use std::alloc::Global;
-
-/// A store has at most so many bytes where nothing else is said: 1 GiB.
-const DEFAULT_LIMIT: u64 = 1_073_741_824;
 
 /// The store that is asked.
 const STORE: Store = Store {
@@ -26,28 +25,40 @@ const STORE: Store = Store {
 /// # Errors
 ///
 /// For a put alone: those of [`read_source`].
-pub fn take_blob<S: Source>(
-    alloc: Global,
-    command: Command,
-    source: &mut S,
-) -> Result<Bytes, ReadRefusal>
-    ensures takes { TakesBlob command result (S.left source.old) (S.left source.new) (S.faults source.old) (S.faults source.new) }
-    ensures get { command ≡ Command.Get → source.new ≡ source.old }
+pub fn take_blob<S: Source>(alloc: Global, word: Word, source: &mut S) -> Result<Bytes, ReadRefusal>
+    ensures takes { TakesBlob word result (S.left source.old) (S.left source.new) (S.faults source.old) (S.faults source.new) }
+    ensures kept { (ReadsSource word → ⊥) → source.new ≡ source.old }
     ensures most { TakesAtMost (MAX_BLOB + 1) (S.left source.old) (S.left source.new) }
     ensures later { S.faults source.old ≤ S.faults source.new }
 {
-    match command {
-        Command::Get => Ok(Bytes::new(alloc)),
-        Command::Put => read_source(alloc, source),
+    match word {
+        Word::Put => read_source(alloc, source),
+        _ => Ok(Bytes::new(alloc)),
     }
 }
 
-/// The request of a command. Takes no memory.
-fn request_for(alloc: Global, command: Command, driver: Driver, key: Key, blob: Bytes) -> Request
-    ensures { result ≡ the_request_for command driver key blob }
+/// The request of a put into at most so many bytes, or of a lookup. Takes no memory.
+fn request_for(
+    alloc: Global,
+    word: Word,
+    driver: Driver,
+    max: u64,
+    keys: NamedKeys,
+    blob: Bytes,
+) -> Request
+    ensures { result ≡ the_request_for word driver max keys.key keys.meta blob }
 {
-    match command {
-        Command::Get => Request::Get {
+    let NamedKeys { key, meta } = keys;
+    match word {
+        Word::Put => Request::Put {
+            store: STORE,
+            driver,
+            key,
+            meta,
+            blob,
+            limit: max,
+        },
+        _ => Request::Get {
             store: STORE,
             driver,
             key,
@@ -56,29 +67,26 @@ fn request_for(alloc: Global, command: Command, driver: Driver, key: Key, blob: 
                 list: false,
             },
         },
-        Command::Put => Request::Put {
-            store: STORE,
-            driver,
-            key,
-            meta: Meta::Unknown,
-            blob,
-            limit: DEFAULT_LIMIT,
-        },
     }
 }
 
-/// What the words ask for under this key, with this blob.
+/// What a put or a get asks for, with this blob.
 pub fn request_of(
     alloc: Global,
-    found: &AskWords,
-    key: Key,
+    command: &Command,
+    admitted: Admitted,
     blob: Bytes,
 ) -> Result<Request, NoMemory>
-    requires { IsFit (ask_of found.now) }
-    ensures { IfOk result (λ request. request ≡ the_request_of (ask_of found.now) key blob) }
+    requires { IsKnown command.now }
+    ensures { IfOk result (λ request. request ≡ the_request_of command.now admitted.settings admitted.keys.key admitted.keys.meta blob) }
 {
-    let Ok(driver) = Driver::new(alloc, found.id, found.gpu, 0) else {
-        return Err(NoMemory);
-    };
-    Ok(request_for(alloc, found.command, driver, key, blob))
+    let driver = driver_of(alloc, command)?;
+    Ok(request_for(
+        alloc,
+        command.word,
+        driver,
+        admitted.settings.max,
+        admitted.keys,
+        blob,
+    ))
 }

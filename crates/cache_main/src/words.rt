@@ -1,144 +1,47 @@
-ghost use Rattle.std.specs.Prelude.{◌≡◌, ◌≢◌, ◌++◌, ◌∷◌, ◌↔◌, [], get_or, map, string_bytes, MatchOption, IsTrue};
-ghost use Rattle.cache_main.specs.Words.{IsDriverWord, IsFit, word_of, ask_of, Finds};
-ghost use Rattle.cache_main.specs.declared.words.Command.{Command};
+ghost use Rattle.std.specs.Prelude.{◌≡◌, ◌⊎◌, ◌↔◌, IfOk, IfErr, IsTrue, Some, map, string_bytes};
+ghost use Rattle.cache_main.specs.Top.{RefusesExactly};
+ghost use Rattle.cache_main.specs.Words.{is_served as the_is_served, asked, HasNoReading, NeedsSettings};
+ghost use Rattle.cmd_words.specs.Known.{IsKnown};
 
-use cache_types::is_driver_text;
+use cmd_words::{Command, Word, WordsRefusal, read_words};
+use report_text::Status;
+use std::alloc::Global;
 
-/// What is asked for.
-#[derive(Clone, Copy, Debug, PartialEq, Eq)]
-pub enum Command {
-    /// To look a key up.
-    Get,
-    /// To put a blob under a key.
-    Put,
-}
-
-/// What the words give: the command, and the driver, the root folder and the key, as texts.
-#[derive(Clone, Copy, Debug)]
-pub struct AskWords<'a> {
-    pub command: Command,
-    pub id: &'a str,
-    pub gpu: &'a str,
-    pub root: &'a str,
-    pub key: &'a str,
-}
-
-/// The command that a word is.
-fn command_of(word: &str) -> Option<Command>
-    ensures { MatchOption result ((command : Command) → word.now ≢ word_of command) (λ command. word.now ≡ word_of command) }
+/// Whether a command is served today.
+fn is_served(word: Word) -> bool
+    ensures { result ≡ the_is_served word }
 {
-    match word {
-        "get" => Some(Command::Get),
-        "put" => Some(Command::Put),
-        _ => None,
-    }
+    matches!(word, Word::Key | Word::Put | Word::Get | Word::Settings)
 }
 
-/// What stands after this beginning of a word.
-fn after<'a>(beginning: &str, word: &'a str) -> Option<&'a str>
-    ensures { MatchOption result ((rest : _) → word.now ≢ beginning.now ++ rest) (λ rest. word.now ≡ beginning.now ++ rest.now) }
+/// Whether a command needs settings.
+pub fn needs_settings(word: Word) -> bool
+    ensures { IsTrue result ↔ NeedsSettings word }
 {
-    word.strip_prefix(beginning)
+    !matches!(word, Word::Key)
 }
 
-/// Whether a word is this text.
-fn is_word(word: &str, text: &str) -> bool
-    ensures { IsTrue result ↔ (word.now ≡ text.now) }
-{
-    word == text
-}
-
-/// Whether a text can stand in a driver, and isn't empty.
-fn is_driver_word(text: &str) -> bool
-    ensures { IsTrue result ↔ IsDriverWord text.now }
-{
-    !text.is_empty() && is_driver_text(text.as_bytes())
-}
-
-/// Whether a key's word begins with no dash.
-fn is_no_option(key: &str) -> bool
-    ensures { IsTrue result ↔ (get_or key.now 0 0 ≢ 45) }
-{
-    !key.starts_with('-')
-}
-
-/// Whether texts can be the values that are asked for.
-fn is_fit(found: &AskWords) -> bool
-    ensures { IsTrue result ↔ IsFit (ask_of found.now) }
-{
-    is_driver_word(found.id)
-        && is_driver_word(found.gpu)
-        && !found.root.is_empty()
-        && is_no_option(found.key)
-}
-
-/// What is asked for with a driver that no words name.
-fn read_plain<'a>(command: &str, layout: &str, root: &'a str, key: &'a str) -> Option<AskWords<'a>>
-    ensures { Finds (command.now ∷ layout.now ∷ root.now ∷ key.now ∷ []) result }
-{
-    let command = command_of(command)?;
-    if !is_word(layout, "--layout=folder") {
-        return None;
-    }
-    let Some(root) = after("--root=", root) else {
-        return None;
-    };
-    let found = AskWords {
-        command,
-        id: "mesa",
-        gpu: "generic",
-        root,
-        key,
-    };
-    if is_fit(&found) { Some(found) } else { None }
-}
-
-/// What is asked for with a driver that the words name.
-fn read_for_driver<'a>(
-    command: &str,
-    id: &'a str,
-    gpu: &'a str,
-    layout: &str,
-    root: &'a str,
-    key: &'a str,
-) -> Option<AskWords<'a>>
-    ensures { Finds (command.now ∷ id.now ∷ gpu.now ∷ layout.now ∷ root.now ∷ key.now ∷ []) result }
-{
-    let command = command_of(command)?;
-    if !is_word(layout, "--layout=folder") {
-        return None;
-    }
-    let Some(id) = after("--id=", id) else {
-        return None;
-    };
-    let Some(gpu) = after("--gpu=", gpu) else {
-        return None;
-    };
-    let Some(root) = after("--root=", root) else {
-        return None;
-    };
-    let found = AskWords {
-        command,
-        id,
-        gpu,
-        root,
-        key,
-    };
-    if is_fit(&found) { Some(found) } else { None }
-}
-
-/// What the words ask for: `get` or `put`, and then `[--id=I --gpu=G] --layout=folder --root=R KEY`, in this
-/// order.
+/// The command that the words ask for.
 ///
-/// `None` exactly where they ask for nothing. Takes no memory.
-pub fn read_ask(words: &[String]) -> Option<AskWords<'_>>
-    ensures { Finds (map string_bytes words.now) result }
+/// # Errors
+///
+/// `Usage` exactly where they have no reading as one that is served; `NoMemory`.
+pub fn read_command(alloc: Global, words: &[String]) -> Result<Command, Status>
+    ensures asked { IfOk result (λ command. asked (map string_bytes words.now) ≡ Some command) }
+    ensures served { IfOk result (λ command. IsTrue (the_is_served command.word)) }
+    ensures known { IfOk result IsKnown }
+    ensures usage { RefusesExactly result Status.Usage (HasNoReading (asked (map string_bytes words.now))) }
+    ensures refused { IfErr result (λ status. (status ≡ Status.Usage) ⊎ (status ≡ Status.NoMemory)) }
 {
-    match words {
-        [command, layout, root, key] => read_plain(command, layout, root, key),
-        [command, id, gpu, layout, root, key] => {
-            read_for_driver(command, id, gpu, layout, root, key)
+    match read_words(alloc, words) {
+        Ok(command) => {
+            if is_served(command.word) {
+                Ok(command)
+            } else {
+                Err(Status::Usage)
+            }
         }
-        _ => None,
+        Err(WordsRefusal::Usage) => Err(Status::Usage),
+        Err(WordsRefusal::NoMemory) => Err(Status::NoMemory),
     }
 }

@@ -2,12 +2,19 @@
 //! standard error what is wrong, and exits with the status's code.
 #![tactic(auto)]
 
+mod help;
 mod streams;
+mod variables;
 
-ghost use Rattle.std.specs.Prelude.{◌≡◌, ◌↔◌, IfOk, map, string_bytes};
-ghost use Rattle.cache_main.specs.Top.{HasBadKey};
-ghost use Rattle.cache_main.specs.Words.{HasNoReading};
+ghost use Rattle.std.specs.Prelude.{IfOk, map, string_bytes};
+ghost use Rattle.cache_main.specs.Keys.{HasBadKey};
+ghost use Rattle.cache_main.specs.Settings.{IsTurnedOff, IsUnbuilt};
+ghost use Rattle.cache_main.specs.Top.{EndsExactly};
+ghost use Rattle.cache_main.specs.Words.{asked, HasNoReading};
+ghost use Rattle.settings_read.specs.Variables.{texts_of};
 
+use crate::help::{HELP, VERSION};
+use crate::variables::variables_of;
 use cache_main::{plan_of, run};
 use cache_types::{NoMemory, Who};
 use host_files::{HostFiles, HostSink, HostSource};
@@ -40,15 +47,39 @@ fn words_of(rt: &HostRuntime) -> Result<Vec<String>, Status> {
 }
 
 /// Does what the words ask for, over the real files under these paths.
-fn serve(rt: &HostRuntime, words: &[String], paths: Paths) -> Result<Status, NoMemory>
-    ensures usage { IfOk result (λ status. (status ≡ Status.Usage) ↔ HasNoReading (map string_bytes words.now)) }
-    ensures bad_key { IfOk result (λ status. (status ≡ Status.BadKey) ↔ HasBadKey (map string_bytes words.now)) }
+fn serve(
+    rt: &HostRuntime,
+    words: &[String],
+    vars: &[(String, String)],
+    paths: Paths,
+) -> Result<Status, NoMemory>
+    ensures usage { IfOk result (λ status. EndsExactly status Status.Usage (HasNoReading (asked (map string_bytes words.now)))) }
+    ensures off { IfOk result (λ status. EndsExactly status Status.Off (IsTurnedOff (asked (map string_bytes words.now)) (texts_of vars.now))) }
+    ensures not_built { IfOk result (λ status. EndsExactly status Status.NotBuilt (IsUnbuilt (asked (map string_bytes words.now)) (texts_of vars.now))) }
+    ensures bad_key { IfOk result (λ status. EndsExactly status Status.BadKey (HasBadKey (asked (map string_bytes words.now)) (texts_of vars.now))) }
 {
     let alloc = rt.alloc();
     let mut files = HostFiles::new(alloc, rt.clone()?, ME, paths)?;
     let mut source = HostSource::new(alloc, rt.clone()?);
     let mut out = HostSink::new(rt.clone()?);
-    Ok(run(alloc, words, &[], &mut files, &mut source, &mut out))
+    Ok(run(alloc, words, vars, &mut files, &mut source, &mut out))
+}
+
+/// Prints a text, for `--help` and `--version`.
+fn show(rt: &HostRuntime, text: &str) -> Status {
+    match rt.write_all(text.as_bytes()) {
+        Ok(()) => Status::Ok,
+        Err(_) => Status::WriteFault,
+    }
+}
+
+/// The text that the words ask for, where the only one is `--help` or `--version`.
+fn text_for(words: &[String]) -> Option<&'static str> {
+    match words {
+        [word] if word.as_str() == "--help" => Some(HELP),
+        [word] if word.as_str() == "--version" => Some(VERSION),
+        _ => None,
+    }
 }
 
 /// The status that the words of the command line lead to.
@@ -60,11 +91,17 @@ fn status_of(rt: &HostRuntime) -> Status {
         Ok(words) => words,
         Err(status) => return status,
     };
-    let paths = match plan_of(rt.alloc(), &words, &[]) {
+    if let Some(text) = text_for(&words) {
+        return show(rt, text);
+    }
+    let Ok(vars) = variables_of(rt) else {
+        return Status::NoMemory;
+    };
+    let paths = match plan_of(rt.alloc(), &words, &vars) {
         Ok(paths) => paths,
         Err(status) => return status,
     };
-    match serve(rt, &words, paths) {
+    match serve(rt, &words, &vars, paths) {
         Ok(status) => status,
         Err(_) => Status::NoMemory,
     }
