@@ -74,7 +74,7 @@ pub fn put_words(alloc: Global, id: &str, root: &str, key: &str) -> Result<Vec<S
 }
 
 /// These words.
-pub fn words_of(alloc: Global, texts: &[&str]) -> Result<Vec<String>, NoMemory> {
+fn words_of(alloc: Global, texts: &[&str]) -> Result<Vec<String>, NoMemory> {
     let mut words = Vec::new(alloc);
     for text in texts {
         words.push(String::from_str(alloc, text)?)?;

@@ -1,10 +1,8 @@
-use crate::entries::{
-    ABC, ABC_OF_E, EMPTY, K1, K1_TEXT, K2, K2_TEXT, ME, files_with, words_for, words_of,
-};
+use crate::entries::{ABC, ABC_OF_E, EMPTY, K1, K1_TEXT, K2, K2_TEXT, files_with, words_for};
 use crate::premises::abc_is_found;
 use cache_main::run;
 use cache_types::{Bytes, Key};
-use memory_files::{MemFiles, MemSink, MemSource};
+use memory_files::{MemSink, MemSource};
 use report_text::Status;
 use std::test::Fail;
 
@@ -69,43 +67,6 @@ fn what_lies_is_found_for_its_driver_alone(rt: HostRuntime) -> Result<(), Fail> 
         let status = run(alloc, &words, &[], &mut files, &mut source, &mut out);
         assert_eq!(rt; status, row.status, "{} {}", row.id, row.text);
         assert_eq!(rt; out.bytes(), row.printed);
-    }
-    Ok(())
-}
-
-#[test]
-fn words_without_a_reading_are_usage(rt: HostRuntime) -> Result<(), Fail> {
-    let alloc = rt.alloc();
-    let (layout, root) = ("--layout=folder", "--root=store");
-    let rows: [(&[&str], Status); 9] = [
-        (&[], Status::Usage),
-        (&["get"], Status::Usage),
-        (&["got", layout, root, K1_TEXT], Status::Usage),
-        (&["get", root, layout, K1_TEXT], Status::Usage),
-        (&["get", "--id=d", layout, root, K1_TEXT], Status::Usage),
-        (
-            &["get", "--id=", "--gpu=g", layout, root, K1_TEXT],
-            Status::Usage,
-        ),
-        (&["get", layout, "--root=", K1_TEXT], Status::Usage),
-        (&["get", layout, root, "-a"], Status::Usage),
-        (
-            &[
-                "get",
-                layout,
-                root,
-                "a9993e364706816aba3e25717850c26c9cd0d89",
-            ],
-            Status::BadKey,
-        ),
-    ];
-    for (texts, wanted) in rows {
-        let words = words_of(alloc, texts)?;
-        let mut files = MemFiles::new(alloc, ME)?;
-        let mut source = MemSource::new(Bytes::new(alloc), Vec::new(alloc));
-        let mut out = MemSink::new(alloc, Vec::new(alloc));
-        let status = run(alloc, &words, &[], &mut files, &mut source, &mut out);
-        assert_eq!(rt; status, wanted);
     }
     Ok(())
 }

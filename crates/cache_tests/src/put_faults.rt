@@ -17,14 +17,15 @@ fn failing(alloc: Global, call: u64, after: u64, memory: bool) -> Result<Vec<Fau
     Ok(plan)
 }
 
-/// A put's calls that can fail are its Begin, the two openings of the entry, the opening of the temporary
-/// file, its cut, its write and the renaming, with the numbers 0 to 6. The Begin fails for memory alone, so
+/// A put's calls that can fail are its Begin, the first opening of the entry, the opening of the lock file and
+/// its lock, the second opening of the entry, the opening of the temporary file, its cut, its write and the
+/// renaming, with the numbers 0 to 8. The Begin fails for memory alone, so
 /// another fault stands for the first opening. A put that failed leaves no entry, and the same put is then
 /// stored.
 #[test]
 fn each_call_of_a_put_that_fails_is_told(rt: HostRuntime) -> Result<(), Fail> {
     let alloc = rt.alloc();
-    for call in 0..7u64 {
+    for call in 0..9u64 {
         for (after, memory) in [(0, false), (14, false), (0, true), (14, true)] {
             let mut files = MemFiles::new(alloc, ME)?;
             files.fail_at(failing(alloc, call, after, memory)?);

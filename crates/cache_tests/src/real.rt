@@ -75,6 +75,7 @@ fn a_temporary_file_that_was_left_is_cut(rt: HostRuntime) -> Result<(), Fail> {
         assert!(rt; fs::metadata(&rt, temp).is_err());
         fs::remove_file(&rt, entry)?;
     }
+    fs::remove_file(&rt, "a_temporary_file_that_was_left/a9/lock")?;
     fs::remove_dir(&rt, folder)?;
     fs::remove_dir(&rt, "a_temporary_file_that_was_left")?;
     Ok(())

@@ -37,8 +37,8 @@ fn a_put_that_was_stopped_does_no_harm(rt: HostRuntime) -> Result<(), Fail> {
             "stopped after {n}"
         );
     }
-    // From the renaming on: after it, after the closing, and after the End.
-    assert_eq!(rt; hits.len(), 3);
+    // From the renaming on: after it, after each of the two closings, and after the End.
+    assert_eq!(rt; hits.len(), 4);
     Ok(())
 }
 
@@ -49,8 +49,9 @@ fn what_a_stopped_put_wrote_is_cut(rt: HostRuntime) -> Result<(), Fail> {
     let alloc = rt.alloc();
     let mut files = MemFiles::new(alloc, ME)?;
     assert!(rt; put("--id=d", K1_TEXT, b"abc", b"stored\n").take(alloc, &mut files)?);
-    // Its Begin, two openings of the entry, one of the temporary file, and the cut, come before the bytes.
-    let n = 5 + 29;
+    // Its Begin, an opening of the entry, that of the lock file, its lock, another opening of the entry, that of
+    // the temporary file, and the cut, come before the bytes.
+    let n = 7 + 29;
     assert!(rt; files.may_follow(n, NEXT)?);
     let mut left = files.stopped_after(n, NEXT)?;
     let temp = left.world().file(&Name::Temp { root: 0, key: K1 })?;
