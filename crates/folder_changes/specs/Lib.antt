@@ -1,0 +1,4 @@
+pub mod Course
+pub mod Frame
+pub mod Order
+pub mod Own

@@ -1,0 +1,9 @@
+pub mod Along
+pub mod Courses
+pub mod Entries
+pub mod Histories
+pub mod Inside
+pub mod Placing
+pub mod Puts
+pub mod Trying
+pub mod TwoSeats

@@ -1,0 +1,10 @@
+pub mod Answers
+pub mod Changes
+pub mod Holds
+pub mod Kinds
+pub mod Laws
+pub mod Operations
+pub mod Places
+pub mod Promises
+pub mod Rules
+pub mod Whole
