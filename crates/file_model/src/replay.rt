@@ -1,4 +1,4 @@
-ghost use Rattle.std.specs.Prelude.{◌≡◌, ◌≤◌, ◌∷◌, [], length, take, IfOk, OnOk};
+ghost use Rattle.std.specs.Prelude.{◌≡◌, ◌≤◌, ◌∷◌, [], length, take, IfOk, OnOk, OnErr};
 ghost use Rattle.file_log.specs.Legal.{IsLegal, Legal};
 ghost use Rattle.file_log.specs.State.{first, state_of};
 ghost use Rattle.file_model.specs.Held.{told, first_of, with_log};
@@ -88,10 +88,11 @@ impl World {
         self.write_run(run.who, run.slot, run.at, bytes)
     }
 
-    /// Does again what an item tells.
-    pub(crate) fn replay(&mut self, item: LogItem) -> Result<(), NoMemory>
+    /// Does again what an item of a log tells, and tells it. A refusal changes nothing.
+    pub fn replay(&mut self, item: LogItem) -> Result<(), NoMemory>
         requires { IsLegal (state_of self.old.past) item }
-        ensures { OnOk result (self.new ≡ told self.old (item ∷ [])) }
+        ensures ok { OnOk result (self.new ≡ told self.old (item ∷ [])) }
+        ensures err { OnErr result (self.new ≡ self.old) }
     {
         match item {
             LogItem::Begin { who, request } => self.tell(who, Note::Begin(request)),

@@ -405,7 +405,7 @@ impl World {
     }
 
     /// The files as they are now, and who has them open and locked.
-    pub(crate) fn tables(&self) -> &Tables
+    pub fn tables(&self) -> &Tables
         ensures { disk_at result.now ≡ disk_of self.now.past }
     {
         &self.tables

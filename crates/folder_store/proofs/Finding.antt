@@ -42,7 +42,7 @@ fine_then : (s : State) (item : LogItem) (made rest : List LogItem) → made ≡
 fine_then s item made rest e f = subst (Fine s) e f
 
 -- all bytes of a file
-whole_is : (bytes whole : List ℕ) (n : ℕ) → n ≡ length whole → bytes ≡ take n (drop 0 whole) → bytes ≡ whole
+pub whole_is : (bytes whole : List ℕ) (n : ℕ) → n ≡ length whole → bytes ≡ take n (drop 0 whole) → bytes ≡ whole
 whole_is bytes whole n e f = f ∙ ap (λ (k : ℕ). take k whole) e ∙ take-length whole
 
 read_step : (me : Who) (s : State) (m last : FolderGet) (reply : Reply) (made : List LogItem) (xs : List Exchange) (answer : Answer) (n : ℕ) (whole : List ℕ) → m.phase ≡ Reading n → n ≡ length whole → bytes_at s.disk me 1 ≡ Some whole
@@ -95,7 +95,7 @@ measuring me s m last (x ∷ xs) answer whole driver e file run fine =
     measure_step me s m last x.reply (items_of_all (x ∷ xs)) xs answer whole driver e file (stepped me m last (Length 1) x xs answer tt (asks_at m Measuring e) run) fine
 
 -- a slot that was filled has the file
-slot_filled : (d : Disk) (who : Who) (slot : ℕ) (file : Option ℕ) → (with_slot d who slot file).slots who slot ≡ file
+pub slot_filled : (d : Disk) (who : Who) (slot : ℕ) (file : Option ℕ) → (with_slot d who slot file).slots who slot ≡ file
 slot_filled d who slot file = rw (seat_self who, eq-eqb slot slot refl) refl
 
 bytes_there : (files : ℕ → List ℕ) (file : Option ℕ) → IsSome file → (whole : List ℕ) × (bytes_in files file ≡ Some whole)

@@ -4,6 +4,11 @@ pub mod Calls
 pub mod Still
 pub mod Outcome
 pub mod Finding
+pub mod Keeping
+pub mod Opened
+pub mod Since
+pub mod GetKnown
+pub mod GetKeeps
 pub mod WholeLookup
 pub mod PutCalls
 pub mod PutOutcome
@@ -18,6 +23,13 @@ pub mod PutLocking
 pub mod PutWrites
 pub mod PutMakes
 pub mod PutWeave
+pub mod AmongKnown
+pub mod AmongSteps
+pub mod AmongLooks
+pub mod AmongLock
+pub mod AmongChanges
+pub mod AmongWrites
+pub mod PutKeeps
 pub mod LockStages
 pub mod LockTries
 pub mod LockHeld

@@ -192,7 +192,7 @@ module _ (me : Who) (root : ℕ) (key : Key) where
       let t = taken_mine (d.locks f) free in
       record { file = f; slot = t.0; named = named; taken = rw (eq-eqb f f refl) t.1 }
 
-  trying_holds : (s : State) → HasLockFile s → is_slot_held s.disk me 0 ≡ false → HoldsLock me root key (locked s.disk me 0 (s.disk.slots me 0))
+  pub trying_holds : (s : State) → HasLockFile s → is_slot_held s.disk me 0 ≡ false → HoldsLock me root key (locked s.disk me 0 (s.disk.slots me 0))
   trying_holds s k free =
       let free' : is_held me (s.disk.locks k.file) ≡ false = ap (λ (o : Option ℕ). is_held me (lock_in s.disk o)) (sym k.slot) ∙ free in
       subst (λ (o : Option ℕ). HoldsLock me root key (locked s.disk me 0 o)) (sym k.slot) (locked_holds s.disk k.file k.named free')

@@ -19,6 +19,11 @@ pub Grows-map : (old new : Option History) (P Q : History → List LogItem → T
 Grows-map None new P Q g f = tt
 Grows-map (Some h) new P Q g f = (g.0, g.1, f h g.0 g.2)
 
+-- the same where it matters which history that was
+pub Grows-from : (old new : Option History) (P Q : History → List LogItem → Type 0) → Grows old new P → ((h : History) (news : List LogItem) → old ≡ Some h → P h news → Q h news) → Grows old new Q
+Grows-from None new P Q g f = tt
+Grows-from (Some h) new P Q g f = (g.0, g.1, f h g.0 refl g.2)
+
 pub Legal-front : (s : State) (xs ys : List LogItem) → Legal s (xs ++ ys) → Legal s xs
 Legal-front s [] ys legal = tt
 Legal-front s (x ∷ xs) ys legal = (legal.0, Legal-front (after s x) xs ys legal.1)

@@ -43,12 +43,12 @@ use Rattle.folder_store.proofs.PutWeave.{Fair, Rule, all_right}
 -- ---- the put
 
 -- what is asked for is what the item reads as
-asked_reads : (request : Request) (root : ℕ) (driver : DriverKeys) (key : Key) (item : List ℕ) → AsksPut request root driver key item → Reads driver item (blob_in request)
+pub asked_reads : (request : Request) (root : ℕ) (driver : DriverKeys) (key : Key) (item : List ℕ) → AsksPut request root driver key item → Reads driver item (blob_in request)
 asked_reads (requests.Put store driver' key' meta blob limit) root driver key item asks = Reads-from_as driver item meta blob asks.3
 asked_reads request root driver key item asks = absurd asks
 
 -- no item is empty
-filled : (driver : DriverKeys) (item blob : List ℕ) → Reads driver item blob → nat_eq (length item) 0 ≡ false
+pub filled : (driver : DriverKeys) (item blob : List ℕ) → Reads driver item blob → nat_eq (length item) 0 ≡ false
 filled driver item blob reads = ne_eqb (length item) 0 (λ empty. absurd (omega (arith, empty, at_least driver item blob reads)))
 
 -- ---- along the log

@@ -38,7 +38,7 @@ some_of (Some f) h = (f, refl)
 -- ---- the front of an entry
 
 -- a driver in front of the first bytes is one in front of all
-part_fronts : (n : ℕ) (whole : List ℕ) (d : DriverKeys) → Fronts (take n whole) d → Fronts whole d
+pub part_fronts : (n : ℕ) (whole : List ℕ) (d : DriverKeys) → Fronts (take n whole) d → Fronts whole d
 part_fronts n whole d f = record {
   driver = f.driver;
   rest = f.rest ++ drop n whole;
@@ -46,7 +46,7 @@ part_fronts n whole d f = record {
 }
 
 -- the longest driver's blob has 522 bytes
-fronts_part : (whole : List ℕ) (d : DriverKeys) → Fronts whole d → Fronts (take 522 whole) d
+pub fronts_part : (whole : List ℕ) (d : DriverKeys) → Fronts whole d → Fronts (take 522 whole) d
 fronts_part whole d f =
     let n : ℕ = 522 - length (blob_of d) in
     let all : 522 ≡ length (blob_of d) + n = omega (arith, length-blob_of d, f.driver.id.0, f.driver.gpu.0) in

@@ -23,7 +23,7 @@ use Rattle.folder_store.proofs.PutRules.{IsRight, Changed, changed}
 use Rattle.folder_store.proofs.PutSteps.{AnswersIn, asks_at, MakesIn, Follows, into, closing_knows, going_excused, failed}
 
 -- a byte at the end of a file
-written_end : (done : List ℕ) (value : ℕ) → written (length done) (value ∷ []) done ≡ done ++ value ∷ []
+pub written_end : (done : List ℕ) (value : ℕ) → written (length done) (value ∷ []) done ≡ done ++ value ∷ []
 written_end done value =
     let within : length done ≤ length done = omega arith in
     let behind : length done ≤ length done + 1 = omega arith in

@@ -21,27 +21,36 @@ use Rattle.folder_store.specs.Holds.{FolderHolds, FindsOrFails}
 use Rattle.folder_store.specs.Lookup.{IsLookupAnswer, LookedUp}
 use Rattle.folder_store.specs.Phases.{asks, asked, Fed, left_in, IsNew}
 use Rattle.folder_store.proofs.Items.{any_fault, all_within, all_counted}
-use Rattle.folder_store.proofs.Operations.{Grows-map, Legal-front, no_fault, never_fault, any_inside}
+use Rattle.folder_store.proofs.Operations.{Grows-from, Legal-front, no_fault, never_fault, any_inside}
 use Rattle.folder_store.proofs.Calls.{looks, looks_within, same_root, looks_spend}
 use Rattle.folder_store.proofs.Still.{all_as_own, looking_stays, nothing_stays}
 use Rattle.folder_store.proofs.Outcome.{outcome}
+use Rattle.folder_rules.specs.Changes.{with_item}
+use Rattle.folder_rules.specs.Rules.{KeepsRules}
+use Rattle.folder_store.proofs.GetKeeps.{lookup_keeps, lookup_misses}
+use Rattle.folder_store.proofs.Keeping.{IsIdleIn, unmade_keeps}
 use Rattle.folder_store.proofs.Finding.{finding}
 
-module _ (me : Who) (request : Request) (root : ℕ) (driver : DriverKeys) (key : Key) (old new : Option History) (before now : ℕ) (answer : Answer) where
+module _ (me : Who) (request : Request) (root : ℕ) (driver : DriverKeys) (key : Key) (old new : Option History) (before now : ℕ) (answer : Answer) (idle : IsIdleIn me old) where
   -- ---- an operation that made no call
 
   no_memory_kind : answer ≡ answers.NoMemory → IsLookupAnswer answer
   no_memory_kind e = rw e tt
 
+  no_miss : answer ≡ answers.NoMemory → answer ≡ answers.Miss → ⊥
+  no_miss e f = let clash : answers.NoMemory ≡ answers.Miss = sym e ∙ f in absurd cc
+
   refused : Refused me old new answer → LookedUp me request root driver key old new before now answer
   refused r = record {
     kind = no_memory_kind r.answer_is;
     cause = λ e. absurd (no_fault answer r.answer_is e);
-    told = Grows-map old new _ _ r.told (λ h news o. record {
+    told = Grows-from old new _ _ r.told (λ h news is_old o. record {
       operation = inl (o.own_items, r.answer_is);
       finds = λ alone. rw r.answer_is tt;
       still = all_as_own after (LeavesAll me) me (λ s item other mine. let clash : false ≡ true = sym other ∙ mine in absurd cc) (state_of h) news (none_keeps after (LeavesAll me) me (state_of h) news o.own_items);
       fault = never_fault answer (own me news) r.answer_is (ap any_fault o.own_items);
+      keeps = λ asks kept. none_keeps with_item KeepsRules me h news o.own_items;
+      misses = λ asks kept others miss. absurd (no_miss r.answer_is miss);
     });
   }
 
@@ -49,11 +58,13 @@ module _ (me : Who) (request : Request) (root : ℕ) (driver : DriverKeys) (key 
   unmade r = record {
     kind = no_memory_kind r.answer_is;
     cause = λ e. absurd (no_fault answer r.answer_is e);
-    told = Grows-map old new _ _ r.told (λ h news o. record {
+    told = Grows-from old new _ _ r.told (λ h news is_old o. record {
       operation = inr (record { inner = []; whole = o.owns.own_items ∙ ap (λ (a : Answer). Begin me request ∷ End me a ∷ []) (sym r.answer_is); within = tt; few = omega arith });
       finds = λ alone. rw r.answer_is tt;
       still = nothing_stays me request news (state_of h) o.owns.own_items o.owns.legal o.owns.goes_on;
       fault = never_fault answer (own me news) r.answer_is (ap any_fault o.owns.own_items);
+      keeps = λ asks kept. unmade_keeps me request h news o.owns.own_items o.owns.legal o.owns.goes_on (idle h is_old) kept;
+      misses = λ asks kept others miss. absurd (no_miss r.answer_is miss);
     });
   }
 
@@ -86,13 +97,15 @@ module _ (me : Who) (request : Request) (root : ℕ) (driver : DriverKeys) (key 
       record {
         kind = end_kind r.given r.answer_is out.kind;
         cause = λ e. r.counts.rose (out.failed (fault_given r.given r.answer_is e));
-        told = Grows-map old new _ _ r.told (λ h news o. record {
+        told = Grows-from old new _ _ r.told (λ h news is_old o. record {
           operation = inr (record { inner = inner; whole = o.owns.own_items; within = all_within asks asked Fed me root (λ m. m.root ≡ root) (looks_within root) (same_root root) r.first r.last r.exchanges r.given begun.root_is r.runs; few = few });
           finds = λ alone. end_finds r.given _ r.answer_is (found r begun fits h news (sym alone ∙ o.owns.own_items) o.owns.legal);
           still = looking_stays asks asked Fed me looks r.first request answer news (state_of h) r.exchanges r.given r.last r.runs r.answer_is o.owns.own_items o.owns.legal o.owns.goes_on;
           fault =
               let same : any_fault (own me news) ≡ any_fault inner = ap any_fault o.owns.own_items ∙ any_inside is_fault me request answer inner refl refl in
               (λ e. same ∙ out.told (fault_given r.given r.answer_is e), λ some. fault_told r.given r.answer_is (out.only (sym same ∙ some)));
+          keeps = λ asks kept. lookup_keeps me request root driver key r.first r.last r.exchanges r.given answer h news fits begun r.runs r.answer_is o.owns.own_items o.owns.legal o.owns.goes_on (idle h is_old) asks kept;
+          misses = lookup_misses me request root driver key r.first r.last r.exchanges r.given answer h news fits begun r.runs r.answer_is o.owns.own_items o.owns.legal o.owns.goes_on (idle h is_old);
         });
       }
     where

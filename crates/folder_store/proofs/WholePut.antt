@@ -18,7 +18,7 @@ use Rattle.folder_store.specs.declared.put_phase.PutPhase.{PutPhase}
 use Rattle.folder_store.specs.Put.{IsPutAnswer, AsksPut, PutDone, blob_in, is_change, is_want}
 use Rattle.folder_store.specs.PutPhases.{IsNewPut, asks_put, asked_put, FedPut, most_put_calls, put_left_in}
 use Rattle.folder_store.proofs.Items.{any_fault, any_want, any_change, all_within, all_counted}
-use Rattle.folder_store.proofs.Operations.{Grows-map, no_fault, never_fault, any_inside}
+use Rattle.folder_store.proofs.Operations.{Grows-from, no_fault, never_fault, any_inside}
 use Rattle.folder_store.proofs.PutCalls.{put_within, same_put_root, put_spends}
 use Rattle.file_log.specs.declared.reply.Reply.{Reply}
 use Rattle.file_log.specs.State.{after, state_of}
@@ -30,6 +30,10 @@ use Rattle.folder_store.proofs.LockTries.{IsOf, AreCalm, nothing_calm, tried_loc
 use Rattle.folder_store.proofs.PutEnds.{put_alone, put_whole, put_tells}
 use Rattle.folder_store.proofs.PutOnDisk.{OnDisk, refused_on_disk, unmade_on_disk}
 use Rattle.folder_store.proofs.PutOutcome.{put_outcome}
+use Rattle.folder_rules.specs.Changes.{with_item}
+use Rattle.folder_rules.specs.Rules.{KeepsRules}
+use Rattle.folder_store.proofs.Keeping.{IsIdleIn, unmade_keeps}
+use Rattle.folder_store.proofs.PutKeeps.{put_keeps}
 
 -- a put's answer carries no list, so it is told as the machine gives it
 end_is : (given answer : Answer) → IsPutAnswer given → IsEndOf given answer → answer ≡ given
@@ -66,7 +70,7 @@ module _ (me : Who) (request : Request) (root : ℕ) (driver : DriverKeys) (key 
   refused r = record {
     kind = rw r.answer_is tt;
     cause = λ e. absurd (no_fault answer r.answer_is e);
-    told = Grows-map old new _ _ r.told (λ h news o.
+    told = Grows-from old new _ _ r.told (λ h news is_old o.
         let disk = subst (λ (a : Answer). OnDisk me root driver key (blob_in request) a h news) (sym r.answer_is) (refused_on_disk me request root driver key (blob_in request) h news o.own_items) in
         record {
           operation = inl (o.own_items, r.answer_is);
@@ -78,14 +82,15 @@ module _ (me : Who) (request : Request) (root : ℕ) (driver : DriverKeys) (key 
           calm = λ e. absurd (no_busy answer r.answer_is e);
           fault = never_fault answer (own me news) r.answer_is (ap any_fault o.own_items);
           want = λ e. never_changes (own me news) (ap any_change o.own_items);
+          keeps = λ kept. none_keeps with_item KeepsRules me h news o.own_items;
         });
   }
 
-  unmade : Unmade me request old new answer → IsDone
-  unmade r = record {
+  unmade : IsIdleIn me old → Unmade me request old new answer → IsDone
+  unmade idle r = record {
     kind = rw r.answer_is tt;
     cause = λ e. absurd (no_fault answer r.answer_is e);
-    told = Grows-map old new _ _ r.told (λ h news o.
+    told = Grows-from old new _ _ r.told (λ h news is_old o.
         let disk = subst (λ (a : Answer). OnDisk me root driver key (blob_in request) a h news) (sym r.answer_is) (unmade_on_disk me request root driver key (blob_in request) h news o.owns.own_items) in
         record {
           operation = inr (record { inner = []; whole = o.owns.own_items ∙ ap (λ (a : Answer). Begin me request ∷ End me a ∷ []) (sym r.answer_is); within = tt; few = omega arith });
@@ -97,12 +102,13 @@ module _ (me : Who) (request : Request) (root : ℕ) (driver : DriverKeys) (key 
           calm = λ e. absurd (no_busy answer r.answer_is e);
           fault = never_fault answer (own me news) r.answer_is (ap any_fault o.owns.own_items);
           want = λ e. never_changes (own me news) (ap any_change o.owns.own_items);
+          keeps = unmade_keeps me request h news o.owns.own_items o.owns.legal o.owns.goes_on (idle h is_old);
         });
   }
 
-  operated : (IsMade : FolderPut → Type 0) → ((m : FolderPut) → IsMade m → IsNewPut root driver key item m) → IsDriver driver → AsksPut request root driver key item
+  operated : IsIdleIn me old → (IsMade : FolderPut → Type 0) → ((m : FolderPut) → IsMade m → IsNewPut root driver key item m) → IsDriver driver → AsksPut request root driver key item
       → Operated asks_put asked_put FedPut (λ m. put_left_in m.phase) IsMade me request old new before now answer → IsDone
-  operated IsMade is_new fits asks r =
+  operated idle IsMade is_new fits asks r =
       let begun = is_new r.first r.made in
       let inner = items_of_all r.exchanges in
       let out = put_outcome me r.first r.last r.exchanges r.given begun.opening r.runs in
@@ -114,7 +120,7 @@ module _ (me : Who) (request : Request) (root : ℕ) (driver : DriverKeys) (key 
       record {
         kind = rw same out.kind;
         cause = λ e. r.counts.rose (out.failed (sym same ∙ e));
-        told = Grows-map old new _ _ r.told (λ h news o.
+        told = Grows-from old new _ _ r.told (λ h news is_old o.
             let faults : any_fault (own me news) ≡ any_fault inner = ap any_fault o.owns.own_items ∙ any_inside is_fault me request answer inner refl refl in
             let wants : any_want (own me news) ≡ any_want inner = ap any_want o.owns.own_items ∙ any_inside is_want me request answer inner refl refl in
             let replies : lock_replies (own me news) ≡ lock_replies inner = ap lock_replies o.owns.own_items ∙ whole_replies me root key request answer inner in
@@ -129,12 +135,13 @@ module _ (me : Who) (request : Request) (root : ℕ) (driver : DriverKeys) (key 
               calm = λ e. calm_all me root key (state_of h) news (subst (AreCalm me root key) (sym o.owns.own_items) (whole_calm me root key request answer inner (tried.calm (sym same ∙ e))));
               fault = (λ e. faults ∙ out.told (sym same ∙ e), λ some. same ∙ out.only (sym faults ∙ some));
               want = λ e c. wants ∙ out.want (sym same ∙ e) (sym changes ∙ c);
+              keeps = put_keeps me request root driver key item r.first r.last r.exchanges r.given answer h news asks begun r.runs r.answer_is o.owns.own_items o.owns.legal o.owns.goes_on (idle h is_old);
             });
       }
 
   -- However it ended, it did what a put does.
-  pub put_done : (IsMade : FolderPut → Type 0) → ((m : FolderPut) → IsMade m → IsNewPut root driver key item m) → IsDriver driver → AsksPut request root driver key item
+  pub put_done : IsIdleIn me old → (IsMade : FolderPut → Type 0) → ((m : FolderPut) → IsMade m → IsNewPut root driver key item m) → IsDriver driver → AsksPut request root driver key item
       → Refused me old new answer ⊎ (Unmade me request old new answer ⊎ Operated asks_put asked_put FedPut (λ m. put_left_in m.phase) IsMade me request old new before now answer) → IsDone
-  put_done IsMade is_new fits asks (inl r) = refused r
-  put_done IsMade is_new fits asks (inr (inl r)) = unmade r
-  put_done IsMade is_new fits asks (inr (inr r)) = operated IsMade is_new fits asks r
+  put_done idle IsMade is_new fits asks (inl r) = refused r
+  put_done idle IsMade is_new fits asks (inr (inl r)) = unmade idle r
+  put_done idle IsMade is_new fits asks (inr (inr r)) = operated idle IsMade is_new fits asks r

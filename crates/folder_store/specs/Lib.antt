@@ -1,6 +1,7 @@
 pub mod Holds
 pub mod Phases
 pub mod Laws
+pub mod Keeping
 pub mod Lookup
 pub mod Locking
 pub mod PutPhases

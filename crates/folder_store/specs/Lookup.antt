@@ -14,6 +14,7 @@ use Rattle.file_log.specs.Operation.{IsOperation, LeavesAll, is_fault}
 use Rattle.file_log.specs.State.{after, state_of, disk_of}
 use Rattle.file_log.specs.Told.{Grows, Rose}
 use Rattle.folder_store.specs.Holds.{FolderHolds, FindsOrFails}
+use Rattle.folder_store.specs.Keeping.{HasKept, KeepsRulesAmong, OthersKeepRules, WasLacking, AsksGet}
 
 -- an answer that a lookup ends with
 abbrev pub IsLookupAnswer : Answer → Type 0
@@ -33,6 +34,10 @@ pub record LooksUp (me : Who) (request : Request) (root : ℕ) (driver : DriverK
   pub still : All after (LeavesAll me) (state_of h) news
   -- it answers a fault exactly where one of its calls failed other than for want of memory
   pub fault : (answer ≡ FilesFault) ↔ (list_any is_fault (own me news) ≡ true)
+  -- among seats that keep the rules it keeps them too, where this lookup was asked for
+  pub keeps : AsksGet request root driver key → KeepsRulesAmong me h news
+  -- and its miss says, also after stops and failed calls, that after one of its items the store held no such blob
+  pub misses : AsksGet request root driver key → HasKept h → OthersKeepRules me h news → answer ≡ Miss → WasLacking me root driver key h news
 
 -- The same where the log may not be told: the answer is one of a lookup, and a fault has its cause in the count of faults.
 pub record LookedUp (me : Who) (request : Request) (root : ℕ) (driver : DriverKeys) (key : Key) (old new : Option History) (before now : ℕ) (answer : Answer) : Type 0 where

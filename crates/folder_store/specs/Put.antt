@@ -25,6 +25,7 @@ use Rattle.item_frame.specs.Item.{ReadsAs}
 use Rattle.folder_store.specs.Entries.{folder_of, with_item, EntriesAreWhole, IsWholeAfter, ReplacesTold, OthersSpare}
 use Rattle.folder_store.specs.declared.put_phase.TheConstants.{LOCK_TRIES}
 use Rattle.folder_store.specs.Holds.{FolderHolds}
+use Rattle.folder_store.specs.Keeping.{KeepsRulesAmong}
 use Rattle.folder_store.specs.Locking.{lock_name, IsUnlocked, HeldInRow, lock_replies, ChangesUnderLock, OwnMakesLockAlone}
 use Rattle.folder_store.specs.PutPhases.{most_put_calls}
 
@@ -142,6 +143,8 @@ pub record Puts (me : Who) (request : Request) (root : ℕ) (driver : DriverKeys
   pub fault : (answer ≡ FilesFault) ↔ (list_any is_fault (own me news) ≡ true)
   -- once it has changed a file it answers want of memory only where a call was refused it
   pub want : answer ≡ NoMemory → list_any is_change (own me news) ≡ true → list_any is_want (own me news) ≡ true
+  -- among seats that keep the rules it keeps them too
+  pub keeps : KeepsRulesAmong me h news
 
 -- The same where the log may not be told: the answer is one of a put, and a fault has its cause in the count of faults.
 pub record PutDone (me : Who) (request : Request) (root : ℕ) (driver : DriverKeys) (key : Key) (blob : List ℕ) (old new : Option History) (before now : ℕ) (answer : Answer) : Type 0 where

@@ -12,7 +12,8 @@ use std::alloc::Global;
 /// The answer is `Hit` with the blob that the store holds for the driver, `Miss` where it holds none,
 /// `FilesFault` exactly where a call failed, or `NoMemory`. In a log that is told, the own items are one
 /// operation of at most four calls in this root, or none where there was no memory to begin one; they change
-/// no name and no file. Afterwards no operation is open and every slot is empty, whatever the answer.
+/// no name and no file, and among seats that keep the rules they keep them. Afterwards no operation is open
+/// and every slot is empty, whatever the answer.
 pub fn folder_get<F: Files>(
     alloc: Global,
     files: &mut F,
@@ -30,6 +31,7 @@ pub fn folder_get<F: Files>(
     ensures faults { F.faults files.old ≤ F.faults files.new }
 {
     driver.known();
+    files.known();
     operate(alloc, files, request, move || {
         Ok(FolderGet::new(alloc, root, driver, key))
     })

@@ -16,7 +16,8 @@ use std::alloc::Global;
 ///
 /// Names and files are changed under that lock alone, as long as other seats leave the lock file its name. In
 /// a log that is told, the own items are one operation of at most 143 calls in this root, or none where there
-/// was no memory to begin one. Afterwards no operation is open and every slot is empty, whatever the answer.
+/// was no memory to begin one. Among seats that keep the rules they keep them. Afterwards no operation is
+/// open and every slot is empty, whatever the answer.
 pub fn folder_put<F: Files>(
     alloc: Global,
     files: &mut F,
@@ -36,6 +37,7 @@ pub fn folder_put<F: Files>(
     ensures faults { F.faults files.old ≤ F.faults files.new }
 {
     driver.known();
+    files.known();
     operate(alloc, files, request, move || {
         Ok(FolderPut::new(alloc, root, driver, key, item))
     })

@@ -18,7 +18,7 @@ loop-index-preserved c =
     let here : IsLegal (state_of world.past) item = c.in_ok-can_come.ensures.0 can in
     let followed : AreQueues c.follow.new.self (after (state_of world.past) item) = c.in_ok-follow.ensures (state_of world.past) c.loop-index.invariant.queues in
     record {
-      world = next_done start log i world new item copy c.loop-index-test.true c.index-log-index.is c.loop-index.invariant.world c.in_ok-replay.ensures c.in_ok-told.ensures;
-      queues = subst (λ (s : State). AreQueues c.follow.new.self s) (sym (next_state world new item copy c.in_ok-replay.ensures c.in_ok-told.ensures)) followed;
+      world = next_done start log i world new item copy c.loop-index-test.true c.index-log-index.is c.loop-index.invariant.world c.in_ok-replay.ensures.ok c.in_ok-told.ensures;
+      queues = subst (λ (s : State). AreQueues c.follow.new.self s) (sym (next_state world new item copy c.in_ok-replay.ensures.ok c.in_ok-told.ensures)) followed;
       legal = next_legal start log i world item c.loop-index-test.true c.index-log-index.is c.loop-index.invariant.world c.loop-index.invariant.legal here;
     }

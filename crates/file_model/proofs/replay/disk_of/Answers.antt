@@ -15,4 +15,4 @@ replay-requires c =
 pub loop-item-preserved : goal.loop-item-preserved
 loop-item-preserved c =
     next_done c.args.start.now c.args.log.now c.loop-item.item-index c.loop-item.world c.replay.new.self c.item-item.result c.in_ok-told.told
-    c.loop-item-test.true c.item-item.is c.loop-item.invariant c.in_ok-replay.ensures c.in_ok-told.ensures
+    c.loop-item-test.true c.item-item.is c.loop-item.invariant c.in_ok-replay.ensures.ok c.in_ok-told.ensures
