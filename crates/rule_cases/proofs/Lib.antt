@@ -2,6 +2,8 @@ pub mod Fields
 pub mod Leaving
 pub mod Losing
 pub mod Making
+pub mod Moving
 pub mod Removing
+pub mod Renaming
 pub mod Still
 pub mod Writing
