@@ -1,8 +1,10 @@
 pub mod Fields
+pub mod Items
 pub mod Leaving
 pub mod Losing
 pub mod Making
 pub mod Moving
+pub mod Place
 pub mod Removing
 pub mod Renaming
 pub mod Still

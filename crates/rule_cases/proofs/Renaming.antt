@@ -27,7 +27,7 @@ use Rattle.rule_cases.proofs.Leaving.{gone_left, gone_stays, leaves_leaving}
 use Rattle.rule_cases.proofs.Losing.{IsReplaced, losing_kept, kept_losing}
 use Rattle.rule_cases.proofs.Moving.{IsMoved, moved_before, had_another, plain_leaves, leaves_plain}
 
-abbrev renaming : Who → Name → Name → LogItem
+abbrev pub renaming : Who → Name → Name → LogItem
 renaming who from to = Did who (Rename from to) Done
 
 -- ---- an entry
