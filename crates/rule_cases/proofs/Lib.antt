@@ -1,5 +1,7 @@
+pub mod Everywhere
 pub mod Fields
 pub mod Items
+pub mod Keeping
 pub mod Leaving
 pub mod Losing
 pub mod Making

@@ -40,16 +40,16 @@ below_had h name f had =
     ap (λ (l : List LogItem). (disk_of (record { start = h.start; log = l })).count) had.log_is ∙ ap (λ (d : Disk). d.count) (disk_further before had.later) in
     omega (arith, small, grown, same)
 
-tidy_at : (log : List LogItem) → IsTidy (summary_of log).state.disk
+pub tidy_at : (log : List LogItem) → IsTidy (summary_of log).state.disk
 tidy_at log = subst (λ (st : State). IsTidy st.disk) (tells log).state (tidy (past log))
 
 -- ---- entries are whole
 
 -- each entry's file reads as a put that the summary lists
-abbrev IsWhole : Summary → Type 0
+abbrev pub IsWhole : Summary → Type 0
 IsWhole s = (root : ℕ) (key : Key) → is_whole s.puts root key (file_of s.state.disk (Entry root key)) ≡ true
 
-whole_then : (s : Summary) (item : LogItem) → IsTidy s.state.disk → IsWhole s → PassesTests s item → IsWhole (summed s item)
+pub whole_then : (s : Summary) (item : LogItem) → IsTidy s.state.disk → IsWhole s → PassesTests s item → IsWhole (summed s item)
 whole_then s item t whole passes = by_seat (seat_of item) refl
   where
     by_seat : (o : Option Who) → seat_of item ≡ o → IsWhole (summed s item)
@@ -82,10 +82,15 @@ whole_at log (suc n) legal keeps = by_item (slice_get log n) refl (whole_at log 
 
 -- ---- all that is known
 
-pub known_at : (log : List LogItem) (n : ℕ) → Legal (first []) log → ((m : ℕ) → m < n → KeepsAt log m) → Known (summary_of (take n log))
-known_at log n legal keeps = record {
-  tidy = tidy_at (take n log);
-  below = λ name f had. subst (λ (st : State). f < st.disk.count) (tells (take n log)).state (below_had (past (take n log)) name f ((tells (take n log)).files.right name f had));
-  listed = λ name f e. (tells (take n log)).files.all name f (had_now (take n log) name f (ap (λ (st : State). st.disk.names name) (tells (take n log)).state ∙ e));
-  whole = whole_at log n legal keeps;
+-- after a log whose entries are whole
+pub known_of : (log : List LogItem) → IsWhole (summary_of log) → Known (summary_of log)
+known_of log whole = record {
+  tidy = tidy_at log;
+  below = λ name f had. subst (λ (st : State). f < st.disk.count) (tells log).state (below_had (past log) name f ((tells log).files.right name f had));
+  listed = λ name f e. (tells log).files.all name f (had_now log name f (ap (λ (st : State). st.disk.names name) (tells log).state ∙ e));
+  whole = whole;
 }
+
+-- at a place before which no place breaks a rule
+pub known_at : (log : List LogItem) (n : ℕ) → Legal (first []) log → ((m : ℕ) → m < n → KeepsAt log m) → Known (summary_of (take n log))
+known_at log n legal keeps = known_of (take n log) (whole_at log n legal keeps)
