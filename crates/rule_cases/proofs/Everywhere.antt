@@ -1,8 +1,7 @@
 -- The tests by cases decide the rules at each place of a log, and along it.
-use Rattle.std.proofs.Common.{◌≡◌, ◌↔◌, ℕ, ◌<◌, List, [], ◌∷◌, ◌++◌, take, slice_get, Some, refl, sym, ap, ◌∙◌, subst}
+use Rattle.std.proofs.Common.{◌≡◌, ◌↔◌, List, [], ◌∷◌, ◌++◌, take, Some, refl, sym, ap, ◌∙◌, subst}
 use Rattle.std.proofs.lemmas.List.Sums.{fold-append}
 use Rattle.cache_types.specs.declared.seat.Who.{Who}
-use Rattle.disk_laws.specs.Tidy.{IsTidy}
 use Rattle.file_log.specs.Along.{All, Keeps}
 use Rattle.file_log.specs.declared.item.LogItem.{LogItem}
 use Rattle.log_summary.specs.Summary.{Summary, nothing, summed, summary_of}
@@ -11,7 +10,7 @@ use Rattle.rule_checks.proofs.Everywhere.{decided, decided_along}
 use Rattle.rule_cases.specs.Laws.{AreTestedByCases, AreTestedAlong, Passed}
 use Rattle.rule_cases.proofs.Fields.{Known}
 use Rattle.rule_cases.proofs.Items.{tested}
-use Rattle.rule_cases.proofs.Place.{IsWhole, tidy_at, whole_then, known_of, known_at}
+use Rattle.rule_cases.proofs.Place.{IsWhole, whole_then, known_of, known_at}
 
 some_is : (a b : LogItem) → Some a ≡ Some b → a ≡ b
 some_is a b e = cc

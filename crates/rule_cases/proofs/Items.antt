@@ -1,10 +1,9 @@
 -- Each item of a seat passes the tests by what it changes just where it passes those of the rules.
-use Rattle.std.proofs.Common.{◌≡◌, ◌↔◌, inl, inr, ℕ, Bool, true, false, nat_eq, ◌&&◌, ◌||◌, is_none, List, [], ◌∷◌, take, Option, Some, None, refl, sym, ap, ◌∙◌, subst, arith}
+use Rattle.std.proofs.Common.{◌≡◌, ◌↔◌, inl, inr, ℕ, Bool, true, false, nat_eq, ◌||◌, is_none, List, [], ◌∷◌, take, Option, Some, None, refl, sym, ap, ◌∙◌, subst, arith}
 use Rattle.std.specs.Cmp.Lexicographic.{pointwise, bytes_decides}
-use Rattle.std.proofs.lemmas.Bool.{false≢true, eqb-true}
+use Rattle.std.proofs.lemmas.Bool.{eqb-true}
 use Rattle.std.proofs.lemmas.Bool.Decides.{Decides-eqb}
 use Rattle.cache_types.specs.Names.{same_name}
-use Rattle.cache_types.specs.declared.key.Key.{Key}
 use Rattle.cache_types.specs.declared.name.Name.{Name}
 use Rattle.cache_types.specs.declared.seat.Who.{Who}
 use Rattle.cache_types.proofs.Names.{same_name_decides}
@@ -23,7 +22,7 @@ use Rattle.folder_rules.proofs.Entries.{apart}
 use Rattle.folder_changes.proofs.Changing.{same_self, one_or_other}
 use Rattle.log_summary.specs.Summary.{Summary}
 use Rattle.log_summary.proofs.Lists.{or_cases, or_left, or_right, and_parts, and_both}
-use Rattle.rule_checks.specs.Tests.{is_earned, Passes, PassesTests}
+use Rattle.rule_checks.specs.Tests.{Passes, PassesTests}
 use Rattle.rule_cases.specs.Cases.{passes_making, may_change, passes_change, passes_renaming, passes_removing, passes_call, passes_reply, passes_changing, passes}
 use Rattle.rule_cases.proofs.Fields.{Known, Leaves, passes_from, passes_to, clash}
 use Rattle.rule_cases.proofs.Still.{still_leaves}

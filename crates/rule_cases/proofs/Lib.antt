@@ -9,5 +9,6 @@ pub mod Moving
 pub mod Place
 pub mod Removing
 pub mod Renaming
+pub mod SmallLogs
 pub mod Still
 pub mod Writing

@@ -1,10 +1,8 @@
 -- Where one entry's file changes and no other's, what is held is kept just where nothing of that entry is lost.
-use Rattle.std.proofs.Common.{◌≡◌, inl, inr, ℕ, Bool, true, false, ◌&&◌, ◌||◌, is_some, List, Option, Some, None, refl, sym, ap, ◌∙◌}
+use Rattle.std.proofs.Common.{◌≡◌, inl, inr, ℕ, Bool, true, false, ◌&&◌, ◌||◌, is_some, List, Option, refl, sym, ap, ◌∙◌}
 use Rattle.std.specs.List.{list_all, list_any}
-use Rattle.std.proofs.lemmas.Bool.{false≢true}
 use Rattle.cache_types.specs.Names.{same_name}
 use Rattle.cache_types.specs.declared.key.Key.{Key}
-use Rattle.cache_types.specs.declared.name.Name.{Name}
 use Rattle.cache_types.specs.declared.name.Name.TheVariants as names
 use Rattle.cache_types.specs.declared.seat.Who.{Who}
 use Rattle.cache_types.specs.declared.store.Layout.{Layout}
@@ -15,8 +13,7 @@ use Rattle.folder_rules.specs.Holds.{Address}
 use Rattle.folder_rules.specs.Whole.{folder_of}
 use Rattle.folder_rules.proofs.Entries.{entry_of}
 use Rattle.folder_changes.proofs.Changing.{one_or_other}
-use Rattle.log_summary.specs.Summary.{BegunPut, OpenEvict, Summary, read_for}
-use Rattle.log_summary.specs.Telling.{In}
+use Rattle.log_summary.specs.Summary.{BegunPut, Summary, read_for}
 use Rattle.log_summary.proofs.Lists.{or_cases, or_left, or_right, and_parts, and_both, all_in, all_out}
 use Rattle.rule_checks.specs.Tests.{implies, same_store, same_key, is_held, evicts, kept_at, kept}
 use Rattle.rule_checks.proofs.Deciding.{same_store_decides, same_key_decides}
@@ -85,10 +82,10 @@ put_kept s new who root key file p r e = by_place (is_put_at root key p) refl
     by_place true here =
         let a = at_put s new root key file p r here in
         implies_out (is_held s.state.disk p.at) _ (λ held.
-            elim (or_cases (is_some (read_for p.at.driver file)) _ (implies_in (is_put_at root key p && is_some (read_for p.at.driver (file_of s.state.disk (names.Entry root key)))) _ e (and_both (is_put_at root key p) _ here (sym a.before ∙ held)))) [
-              | inl still ↦ or_left (is_held new p.at) _ (a.after ∙ still)
-              | inr evicted ↦ or_right (is_held new p.at) _ evicted
-            ])
+        elim (or_cases (is_some (read_for p.at.driver file)) _ (implies_in (is_put_at root key p && is_some (read_for p.at.driver (file_of s.state.disk (names.Entry root key)))) _ e (and_both (is_put_at root key p) _ here (sym a.before ∙ held)))) [
+          | inl still ↦ or_left (is_held new p.at) _ (a.after ∙ still)
+          | inr evicted ↦ or_right (is_held new p.at) _ evicted
+        ])
     by_place false elsewhere = kept_at_so s.evicting who s.state.disk new p (held_so s.state.disk new p.at (λ folder. file_so s.state.disk new (entry_of p.at) (r.others p.at.store.root p.at.key (another root key p elsewhere folder))))
 
 kept_put : (s : Summary) (new : Disk) (who : Who) (root : ℕ) (key : Key) (file : Option (List ℕ)) (p : BegunPut) → Replaced s new root key file → kept_at s.evicting who s.state.disk new p ≡ true → keeps_put s who root key file p ≡ true

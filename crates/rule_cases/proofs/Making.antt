@@ -1,5 +1,5 @@
 -- An item by which a name gets a new file passes the tests just where the seat may make it.
-use Rattle.std.proofs.Common.{◌≡◌, inl, inr, ℕ, ◌<◌, Bool, true, false, not, ◌&&◌, Option, Some, None, refl, sym, ap, ◌∙◌, subst}
+use Rattle.std.proofs.Common.{◌≡◌, inl, inr, ℕ, ◌<◌, Bool, true, false, not, ◌&&◌, Some, None, refl, sym, ap, ◌∙◌, subst}
 use Rattle.std.proofs.lemmas.Bool.{not-true, false≢true}
 use Rattle.cache_types.specs.Names.{same_name}
 use Rattle.cache_types.specs.declared.key.Key.{Key}

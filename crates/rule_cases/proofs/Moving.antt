@@ -1,6 +1,6 @@
 -- An item by which a name's file goes to another that is no entry passes the tests just where it may leave the one and come in the other's place.
 use Rattle.std.proofs.Common.{◌≡◌, inl, inr, ℕ, Bool, true, false, not, ◌&&◌, is_none, Option, Some, None, refl, sym, ap, ◌∙◌, subst}
-use Rattle.std.proofs.lemmas.Bool.{not-true, false≢true, true≢false}
+use Rattle.std.proofs.lemmas.Bool.{not-true, false≢true}
 use Rattle.cache_types.specs.Names.{same_name}
 use Rattle.cache_types.specs.declared.key.Key.{Key}
 use Rattle.cache_types.specs.declared.name.Name.{Name}

@@ -1,6 +1,4 @@
 -- An item that changes no name and no file passes the tests.
-use Rattle.std.proofs.Common.{◌≡◌, ℕ}
-use Rattle.cache_types.specs.declared.key.Key.{Key}
 use Rattle.cache_types.specs.declared.name.Name.{Name}
 use Rattle.cache_types.specs.declared.name.Name.TheVariants as names
 use Rattle.cache_types.specs.declared.seat.Who.{Who}

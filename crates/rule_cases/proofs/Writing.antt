@@ -1,5 +1,5 @@
 -- An item by which the bytes of a file change passes the tests just where the seat may change them.
-use Rattle.std.proofs.Common.{◌≡◌, inl, inr, ℕ, Bool, true, false, not, ◌&&◌, nat_eq, List, Option, Some, None, refl, sym, ap, ◌∙◌, subst}
+use Rattle.std.proofs.Common.{◌≡◌, ℕ, true, not, ◌&&◌, nat_eq, Option, Some, None, sym, ap, ◌∙◌, subst}
 use Rattle.std.proofs.lemmas.Bool.{not-true, false≢true}
 use Rattle.std.proofs.lemmas.Bool.Decides.{Decides-eqb}
 use Rattle.cache_types.specs.declared.key.Key.{Key}
@@ -11,13 +11,12 @@ use Rattle.file_log.specs.declared.item.LogItem.{LogItem}
 use Rattle.folder_rules.specs.Changes.{may_write}
 use Rattle.folder_rules.specs.Kinds.{is_entry, is_unwritten}
 use Rattle.folder_rules.specs.Operations.{is_file}
-use Rattle.folder_rules.specs.Rules.{IsLeft}
 use Rattle.log_summary.specs.Summary.{Summary}
 use Rattle.log_summary.specs.Telling.{In}
 use Rattle.log_summary.proofs.Lists.{and_parts, and_both, all_in, all_out}
 use Rattle.rule_checks.specs.Tests.{implies}
 use Rattle.rule_cases.specs.Cases.{may_change_of, may_change}
-use Rattle.rule_cases.proofs.Fields.{Known, Leaves, IsAsBefore, implies_in, implies_out, never, always, clash, left_so, renamed_so, stays_so, whole_so, kept_so}
+use Rattle.rule_cases.proofs.Fields.{Known, Leaves, IsAsBefore, implies_in, implies_out, never, always, clash, left_so, renamed_so, whole_so, kept_so}
 
 -- one file's bytes differ, and no name's file does
 pub record IsWritten (old new : Disk) (file : ℕ) : Type 0 where
