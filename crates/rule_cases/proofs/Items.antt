@@ -64,8 +64,8 @@ opening s who slot name k (Some file) e = still true s (opened (Some file) s.sta
 -- ---- a file's bytes change
 
 -- they don't really
-is_unwritten : (d : Disk) (file : ℕ) (change : List ℕ → List ℕ) → change (d.files file) ≡ d.files file → IsStill d (rewritten d (Some file) change)
-is_unwritten d file change same = record { names = λ n. refl; files = λ f. by_test f (nat_eq file f) refl }
+same_written : (d : Disk) (file : ℕ) (change : List ℕ → List ℕ) → change (d.files file) ≡ d.files file → IsStill d (rewritten d (Some file) change)
+same_written d file change same = record { names = λ n. refl; files = λ f. by_test f (nat_eq file f) refl }
   where
     by_test : (f : ℕ) (b : Bool) → nat_eq file f ≡ b → (rewritten d (Some file) change).files f ≡ d.files f
     by_test f true e = rw e (same ∙ ap d.files (eqb-true file f e))
@@ -95,7 +95,7 @@ changing s item who change k (Some file) = by_test (pointwise nat_eq (change (s.
     same_bytes = pointwise nat_eq (change (s.state.disk.files file)) (s.state.disk.files file)
 
     by_test : (b : Bool) → same_bytes ≡ b → Says (same_bytes || may_change s who file) s new item who
-    by_test true e = still (same_bytes || may_change s who file) s new item who k (or_left same_bytes _ e) (is_unwritten s.state.disk file change ((bytes_decides (change (s.state.disk.files file)) (s.state.disk.files file)).0 e))
+    by_test true e = still (same_bytes || may_change s who file) s new item who k (or_left same_bytes _ e) (same_written s.state.disk file change ((bytes_decides (change (s.state.disk.files file)) (s.state.disk.files file)).0 e))
     by_test false e =
         let w = is_written s.state.disk file change (λ same. clash same_bytes ((bytes_decides (change (s.state.disk.files file)) (s.state.disk.files file)).1 same) e) in (
           λ passed. elim (or_cases same_bytes _ passed) [ inl same ↦ absurd (clash same_bytes same e) | inr may ↦ writing_leaves s new item who file k w may ],
@@ -111,8 +111,8 @@ other_way a b e = elim (one_or_other b a) [
 ]
 
 -- to itself
-is_unmoved : (d : Disk) (from to : Name) (file : ℕ) → d.names from ≡ Some file → from ≡ to → IsStill d (renamed d (Some file) from to)
-is_unmoved d from to file had same = record { names = each; files = λ f. refl }
+moved_to_itself : (d : Disk) (from to : Name) (file : ℕ) → d.names from ≡ Some file → from ≡ to → IsStill d (renamed d (Some file) from to)
+moved_to_itself d from to file had same = record { names = each; files = λ f. refl }
   where
     there : (renamed d (Some file) from to).names to ≡ Some file
     there = rw (same_self to) refl
@@ -139,7 +139,7 @@ moving s who from to k (Some file) e = by_test (same_name from to) refl
     new = renamed s.state.disk (Some file) from to
 
     by_test : (b : Bool) → same_name from to ≡ b → Says (same_name from to || moves_well s who from file to) s new (renaming who from to) who
-    by_test true same = still (same_name from to || moves_well s who from file to) s new (renaming who from to) who k (or_left (same_name from to) _ same) (is_unmoved s.state.disk from to file e ((same_name_decides from to).0 same))
+    by_test true same = still (same_name from to || moves_well s who from file to) s new (renaming who from to) who k (or_left (same_name from to) _ same) (moved_to_itself s.state.disk from to file e ((same_name_decides from to).0 same))
     by_test false differ =
         let m = is_moved s.state.disk from to file e differ in (
           λ passed. elim (or_cases (same_name from to) _ passed) [ inl same ↦ absurd (clash (same_name from to) same differ) | inr well ↦ renaming_leaves s new who from to file k m well ],
@@ -149,8 +149,8 @@ moving s who from to k (Some file) e = by_test (same_name from to) refl
 -- ---- a name is removed
 
 -- one that has no file
-is_unremoved : (d : Disk) (name : Name) → d.names name ≡ None → IsStill d (named d name None)
-is_unremoved d name absent = record { names = each; files = λ f. refl }
+absent_removed : (d : Disk) (name : Name) → d.names name ≡ None → IsStill d (named d name None)
+absent_removed d name absent = record { names = each; files = λ f. refl }
   where
     here : (named d name None).names name ≡ None
     here = rw (same_self name) refl
@@ -168,7 +168,7 @@ is_removed d name file had = record {
 }
 
 removing : (s : Summary) (who : Who) (name : Name) → Known s → (o : Option ℕ) → s.state.disk.names name ≡ o → Says (passes_removing s who name o) s (named s.state.disk name None) (items.Did who (calls.Remove name) Done) who
-removing s who name k None e = still true s (named s.state.disk name None) (items.Did who (calls.Remove name) Done) who k refl (is_unremoved s.state.disk name e)
+removing s who name k None e = still true s (named s.state.disk name None) (items.Did who (calls.Remove name) Done) who k refl (absent_removed s.state.disk name e)
 removing s who name k (Some file) e =
     let new = named s.state.disk name None in
     let item : LogItem = items.Did who (calls.Remove name) Done in

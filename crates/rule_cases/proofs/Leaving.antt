@@ -34,8 +34,8 @@ gone_left old new who name file g may other = record {
   stays = λ kind. absurd (clash _ (implies_in (is_temporary name) _ (leave_parts old who name may).1 kind) other);
 }
 
-pub gone_stays : (old new : Disk) (who : Who) (name : Name) (file : ℕ) → may_leave old who name ≡ true → StaysSo old new name
-gone_stays old new who name file may =
+pub gone_stays : (old new : Disk) (who : Who) (name : Name) → may_leave old who name ≡ true → StaysSo old new name
+gone_stays old new who name may =
     let kinds = (leave_parts old who name may).0 in
     (λ kind f e. absurd (clash (is_lasting name) kind (not-true (is_lasting name) kinds.0)), λ kind. absurd (clash (is_foreign name) kind (not-true (is_foreign name) kinds.1)))
 

@@ -63,7 +63,7 @@ plain_leaves s new item who from to file k m from_plain to_plain leave come = re
   stay = λ name. elim (one_or_other to name) [
     | inl same ↦ subst (StaysSo s.state.disk new) same to_stays
     | inr not_to ↦ elim (one_or_other from name) [
-      | inl same ↦ subst (StaysSo s.state.disk new) same (gone_stays s.state.disk new who from file leave)
+      | inl same ↦ subst (StaysSo s.state.disk new) same (gone_stays s.state.disk new who from leave)
       | inr not_from ↦ stays_so s.state.disk new name (before name not_from not_to)
     ]
   ];

@@ -46,7 +46,7 @@ plain_leaves s new item who name file k r plain may = record {
   renamed = λ root key. renamed_so s.state.disk new item who root key (entry root key);
   entries = λ other f had kind. r.here.files f;
   stay = λ other. elim (one_or_other name other) [
-    | inl same ↦ subst (StaysSo s.state.disk new) same (gone_stays s.state.disk new who name file may)
+    | inl same ↦ subst (StaysSo s.state.disk new) same (gone_stays s.state.disk new who name may)
     | inr apart_ ↦ stays_so s.state.disk new other (as_before s.state.disk new name file r other apart_)
   ];
   unwritten = λ other f had kind. r.here.files f;

@@ -86,7 +86,7 @@ entry_leaves s new who from root key file k m plain leave come = record {
   stay = λ name. elim (one_or_other (names.Entry root key) name) [
     | inl same ↦ subst (StaysSo s.state.disk new) same (λ kind. absurd (false≢true kind), λ kind. absurd (false≢true kind))
     | inr not_to ↦ elim (one_or_other from name) [
-      | inl same ↦ subst (StaysSo s.state.disk new) same (gone_stays s.state.disk new who from file leave)
+      | inl same ↦ subst (StaysSo s.state.disk new) same (gone_stays s.state.disk new who from leave)
       | inr not_from ↦ stays_so s.state.disk new name (before name not_from not_to)
     ]
   ];
