@@ -15,7 +15,8 @@ pub fn logs_by_cases()
     ensures { AreTestedAlong }
 {}
 
-/// An item that passes the tests by cases writes no file that an entry has or had, whoever's it is.
+/// After a log all of whose items pass the tests by cases, one more that passes leaves the bytes of every file
+/// that an entry has or had, be it a seat's item or none's.
 pub fn entries_keep_bytes()
     ensures { LeaveEntries }
 {}
