@@ -1,0 +1,5 @@
+pub mod GetAlong
+pub mod PutAlong
+pub mod Known
+pub mod Standing
+pub mod Orderly
