@@ -1,5 +1,6 @@
 pub mod GetAlong
 pub mod PutAlong
 pub mod Known
+pub mod Slots
 pub mod Standing
 pub mod Orderly

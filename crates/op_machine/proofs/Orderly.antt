@@ -5,6 +5,8 @@ use Rattle.std.proofs.lemmas.Bool.{false≢true, eqb-true, eq-eqb, ne_eqb}
 use Rattle.std.proofs.lemmas.List.{append-nil}
 use Rattle.std.proofs.lemmas.List.Sums.{fold-append}
 use Rattle.cache_types.specs.Seats.{same_seat}
+use Rattle.cache_types.specs.declared.answer.Answer.{Answer}
+use Rattle.cache_types.specs.declared.request.Request.{Request}
 use Rattle.cache_types.specs.declared.seat.Who.{Who}
 use Rattle.file_log.specs.declared.call.Call.{Call}
 use Rattle.file_log.specs.declared.call.Call.TheVariants as calls
@@ -12,6 +14,7 @@ use Rattle.file_log.specs.declared.note.Note.TheVariants as notes
 use Rattle.file_log.specs.declared.reply.Reply.TheVariants as replies
 use Rattle.file_log.specs.declared.item.LogItem.{LogItem}
 use Rattle.file_log.specs.declared.item.LogItem.TheVariants as items
+use Rattle.file_log.specs.declared.ticket.Ticket.{Ticket}
 use Rattle.file_log.specs.Along.{All}
 use Rattle.file_log.specs.Exchange.{items_refused}
 use Rattle.file_log.specs.Legal.{Legal}
@@ -21,6 +24,7 @@ use Rattle.file_log.proofs.All.{seat_self}
 use Rattle.file_model.specs.declared.step.Progress.{Progress}
 use Rattle.file_model.specs.declared.step.Progress.TheVariants as progresses
 use Rattle.file_model.specs.Steps.{byte_item, done_items, step_items, StepFits}
+use Rattle.files_api.specs.Drive.{IsEndOf}
 use Rattle.item_frame.proofs.Numbers.{or_false}
 use Rattle.folder_rules.specs.Changes.{with_item}
 use Rattle.folder_rules.specs.Places.{past, Cooperating}
@@ -33,7 +37,7 @@ use Rattle.folder_store.proofs.Keeping.{CanFollow, follow}
 use Rattle.op_machine.specs.Places.{Where}
 use Rattle.op_machine.specs.declared.op.Op.{Op}
 use Rattle.op_machine.specs.Places.{Leads}
-use Rattle.op_machine.proofs.Standing.{Stands, out_at_first, stays, steps}
+use Rattle.op_machine.proofs.Standing.{Stands, out_at_first, begins, steps, ends, takes, stays}
 
 -- an item of no seat keeps the rules
 pub unseated_keeps : (h : History) (x : LogItem) → seat_of x ≡ None → KeepsRules h x
@@ -202,3 +206,38 @@ step_comes me seats seats' log n call done progress o goes at fits legal leads o
     let here : Stands me (Where.Within n call done) (past log) = subst (λ (place : Where). Stands me place (past log)) at (o.stand me goes) in
     let s = steps me n call done progress (seats' me) (past log) here fits legal leads in
     own_items_come me seats seats' log (step_items progress me true call done) o (step_mine me progress call done) legal s.0 s.1 others
+
+-- ---- other items
+
+-- the seat's own item, after which it stands where it is said to
+own_item_comes : (me : Who) (seats seats' : Who → Where) (log : List LogItem) (x : LogItem) → IsOrderly seats log → is_own me x ≡ true → CanFollow (past log) x → KeepsRules (past log) x → Stands me (seats' me) (with_item (past log) x) → OnlyMoves me seats seats' → IsOrderly seats' (log ++ x ∷ [])
+own_item_comes me seats seats' log x o mine legal rule s others = own_items_come me seats seats' log (x ∷ []) o (mine, tt) (legal, tt) (rule, tt) s others
+
+stands_at : (me : Who) (place place' : Where) (h : History) → place' ≡ place → Stands me place h → Stands me place' h
+stands_at me place place' h e s = subst (λ (p : Where). Stands me p h) (sym e) s
+
+-- its Begin
+pub begin_comes : (me : Who) (seats seats' : Who → Where) (log : List LogItem) (request : Request) → IsOrderly seats log → (state_of (past log)).halted me.process ≡ false → seats me ≡ Where.Outside → CanFollow (past log) (items.Begin me request) → seats' me ≡ Where.Begun request → OnlyMoves me seats seats'
+    → IsOrderly seats' (log ++ items.Begin me request ∷ [])
+begin_comes me seats seats' log request o goes at legal at' others =
+    let b = begins me request (past log) (stands_at me (seats me) Where.Outside (past log) (sym at) (o.stand me goes)) legal in
+    own_item_comes me seats seats' log (items.Begin me request) o (seat_self me) legal b.0 (stands_at me (Where.Begun request) (seats' me) (with_item (past log) (items.Begin me request)) at' b.1) others
+
+-- its End
+pub end_comes : (me : Who) (seats seats' : Who → Where) (log : List LogItem) (given answer : Answer) → IsOrderly seats log → (state_of (past log)).halted me.process ≡ false → seats me ≡ Where.Ending given → IsEndOf given answer → CanFollow (past log) (items.End me answer) → seats' me ≡ Where.Outside
+    → OnlyMoves me seats seats' → IsOrderly seats' (log ++ items.End me answer ∷ [])
+end_comes me seats seats' log given answer o goes at is legal at' others =
+    let b = ends me given answer (past log) (stands_at me (seats me) (Where.Ending given) (past log) (sym at) (o.stand me goes)) is legal in
+    own_item_comes me seats seats' log (items.End me answer) o (seat_self me) legal b.0 (stands_at me Where.Outside (seats' me) (with_item (past log) (items.End me answer)) at' b.1) others
+
+-- a job that it takes from its process's queue
+pub taken_comes : (me : Who) (seats seats' : Who → Where) (log : List LogItem) (ticket : Ticket) → IsOrderly seats log → (state_of (past log)).halted me.process ≡ false → seats me ≡ Where.Outside → CanFollow (past log) (items.Taken me ticket) → seats' me ≡ Where.Outside → OnlyMoves me seats seats'
+    → IsOrderly seats' (log ++ items.Taken me ticket ∷ [])
+taken_comes me seats seats' log ticket o goes at legal at' others =
+    let b = takes me ticket (past log) (stands_at me (seats me) Where.Outside (past log) (sym at) (o.stand me goes)) legal in
+    own_item_comes me seats seats' log (items.Taken me ticket) o (seat_self me) legal b.0 (stands_at me Where.Outside (seats' me) (with_item (past log) (items.Taken me ticket)) at' b.1) others
+
+-- an item of no seat: a job that is queued, a stop, a read-only database, its list
+pub unseated_comes : (seats : Who → Where) (log : List LogItem) (x : LogItem) → IsOrderly seats log → seat_of x ≡ None → CanFollow (past log) x → IsOrderly seats (log ++ x ∷ [])
+unseated_comes seats log x o none legal =
+    item_comes seats seats log x o legal (unseated_keeps (past log) x none) (λ who mine. absurd (false≢true (sym (ap (is_seat who) none) ∙ mine))) (λ who other. refl)

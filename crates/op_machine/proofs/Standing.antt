@@ -19,11 +19,12 @@ use Rattle.file_log.specs.Exchange.{Answers, Makes, items_before}
 use Rattle.file_log.specs.Fits.{RequestFits}
 use Rattle.file_log.specs.Legal.{Legal}
 use Rattle.file_log.specs.Log.{History, with_items, is_own, is_stop}
-use Rattle.file_log.specs.Seat.{course_of}
+use Rattle.file_log.specs.Seat.{MayCall, course_of}
 use Rattle.file_log.specs.State.{state_of}
 use Rattle.file_model.specs.declared.step.Progress.{Progress}
 use Rattle.file_model.specs.declared.step.Progress.TheVariants as progresses
-use Rattle.file_model.specs.Steps.{step_items, StepFits}
+use Rattle.file_model.specs.Seeing.{seen_of}
+use Rattle.file_model.specs.Steps.{step_items, StepFits, IsPlace}
 use Rattle.files_api.specs.declared.machine.Step.TheVariants.{Ask, Done}
 use Rattle.files_api.specs.Drive.{IsEndOf}
 use Rattle.folder_rules.specs.Changes.{with_item}
@@ -34,10 +35,11 @@ use Rattle.folder_changes.proofs.Ordering.{stays_in_order}
 use Rattle.folder_store.proofs.Keeping.{CanFollow, IsOut, out_other, out_ended, IsIn, in_then, within_other, begin_rules, begun}
 use Rattle.op_machine.specs.declared.op.Op.{Op}
 use Rattle.op_machine.specs.declared.op.Op.TheVariants.{Get, Put, Refuse}
-use Rattle.op_machine.specs.Machine.{asks, asked, Fed}
+use Rattle.op_machine.specs.Machine.{asks, asked, Fed, slots, hurt}
 use Rattle.op_machine.specs.Places.{Where, Leads}
 use Rattle.op_machine.specs.Requests.{IsBuilt, IsOpOf}
 use Rattle.op_machine.proofs.Known as known
+use Rattle.op_machine.proofs.Slots.{HasSlots, HasNone, HasThose, other_keeps, none_other, none_still, byte_keeps, begun_has, machine_may, machine_done, machine_goes}
 use Rattle.std.proofs.Common.{◌⊎◌, ◌≤◌}
 use Rattle.std.proofs.Math.Seq.{take-length}
 use Rattle.std.proofs.lemmas.Bool.{eq-eqb, lt-ltb, ne_eqb}
@@ -63,6 +65,10 @@ use Rattle.folder_rules.specs.Operations.{IsInside}
 use Rattle.folder_rules.specs.Rules.{AnswersAreEarned}
 use Rattle.folder_rules.specs.Whole.{folder_of}
 use Rattle.folder_rules.proofs.Histories.{goes_by}
+use Rattle.folder_store.specs.declared.get.Phase.{Phase}
+use Rattle.folder_store.specs.declared.put_phase.PutPhase.{PutPhase}
+use Rattle.folder_store.specs.Phases.{slots_in, hurt_in}
+use Rattle.folder_store.specs.PutPhases.{put_slots_in, put_hurt_in}
 use Rattle.folder_store.proofs.AmongKnown.{Task}
 use Rattle.folder_store.proofs.Keeping.{follow, still_rules, within_inner}
 
@@ -83,6 +89,8 @@ module _ (me : Who) where
     pub asked_is : asked m ≡ n
     pub inside : IsIn me request h
     pub making : IsMaking request m call done h
+    pub place : IsPlace call done
+    pub seen : HasThose me m h
 
   -- what its machine gave may end it
   pub record IsEnding (given : Answer) (h : History) : Type 0 where
@@ -90,17 +98,19 @@ module _ (me : Who) where
     pub m : Op
     pub gives : asks m ≡ Done given
     pub knows : known.Between me request m h
+    pub seen : HasSlots me (λ at. false) true h
 
   -- the request that was begun can be, and the seat is in its operation
   pub record HasBegun (request : Request) (h : History) : Type 0 where
     pub fits : RequestFits request
     pub inside : IsIn me request h
+    pub seen : HasSlots me (λ at. false) false h
 
   -- the seat stands there
   abbrev pub Stands : Where → History → Type 0
-  Stands Where.Outside h = IsOut me h
+  Stands Where.Outside h = IsOut me h × HasNone me h
   Stands (Where.Begun request) h = HasBegun request h
-  Stands (Where.Between m) h = (request : Request) × known.Between me request m h
+  Stands (Where.Between m) h = (request : Request) × known.Between me request m h × HasThose me m h
   Stands (Where.Within n call done) h = IsWithin n call done h
   Stands (Where.Ending given) h = IsEnding given h
 
@@ -108,11 +118,11 @@ module _ (me : Who) where
 
   -- before any item it is in no operation
   pub out_at_first : Stands Where.Outside (past [])
-  out_at_first = record { order = stays_in_order.0; idle = refl }
+  out_at_first = (record { order = stays_in_order.0; idle = refl }, λ at. refl)
 
   -- its Begin keeps the rules
   pub begins : (request : Request) (h : History) → Stands Where.Outside h → CanFollow h (items.Begin me request) → KeepsRules h (items.Begin me request) × Stands (Where.Begun request) (with_item h (items.Begin me request))
-  begins request h out legal = (begin_rules me request h out, record { fits = legal.1; inside = begun me request h out legal })
+  begins request h out legal = (begin_rules me request h out.0, record { fits = legal.1; inside = begun me request h out.0 legal; seen = begun_has me request h out.1 })
 
   -- ---- its machine
 
@@ -128,17 +138,17 @@ module _ (me : Who) where
   gets_machine (requests.Get store driver key ro) (Get m) h built new b =
       let request : Request = requests.Get store driver key ro in
       let for : known.ForGet me request = record { root = store.root; driver = driver; key = key; ro = ro; fits = b.fits.0; request_is = ap (λ (s : Store). requests.Get s driver key ro) (store_is store built.0) } in
-      (request, known.get_starts me request for m h new b.inside)
+      (request, known.get_starts me request for m h new b.inside, subst (λ (p : Phase). HasSlots me (slots_in p) (hurt_in p) h) (sym new.opening) b.seen)
   gets_machine (requests.Put store driver key meta blob limit) (Put m) h built new b =
       let request : Request = requests.Put store driver key meta blob limit in
       let task : Task = record { me = me; root = store.root; driver = driver; key = key; meta = meta; blob = blob; limit = limit; item = item_of driver meta blob } in
       let reads : Reads driver (item_of driver meta blob) blob = record { meta = meta; fits = meta_fits meta built.1 b.fits.2; size = new.0; whole = refl } in
       let for : known.ForPut me request = record { task = task; mine = refl; reads = reads; request_is = ap (λ (s : Store). requests.Put s driver key meta blob limit) (store_is store built.0) } in
-      (request, known.put_starts me request for m h new.1 b.inside)
+      (request, known.put_starts me request for m h new.1 b.inside, subst (λ (p : PutPhase). HasSlots me (put_slots_in p) (put_hurt_in p) h) (sym new.1.opening) b.seen)
   gets_machine (requests.Put store driver key meta blob limit) (Refuse m) h built new b =
       let request : Request = requests.Put store driver key meta blob limit in
       let large : (at : History) → IsInside at.log me request → AnswersAreEarned at (items.End me (answers.TooLarge (length blob))) = λ at i. (earns at me).too_large store driver key meta blob limit (length blob) i (is_large blob new.0) in
-      (request, known.given_starts me request m h b.inside (subst (known.IsEarnedByAny me request) (sym new.1) large))
+      (request, known.given_starts me request m h b.inside (subst (known.IsEarnedByAny me request) (sym new.1) large), b.seen)
   gets_machine request m h built new b = absurd new
 
   -- there was no memory for one
@@ -148,6 +158,7 @@ module _ (me : Who) where
     m = Refuse (record { answer = Some answers.NoMemory });
     gives = refl;
     knows = known.given_starts me request (record { answer = Some answers.NoMemory }) h b.inside (λ at i. (earns at me).no_memory request i);
+    seen = record { filled = b.seen.filled; inside = b.seen.inside; covers = λ e. refl };
   }
 
   -- ---- its calls
@@ -155,6 +166,11 @@ module _ (me : Who) where
   none_before : (call : Call) → items_before me call 0 ≡ []
   none_before (calls.WriteAt slot at bytes) = refl
   none_before call = refl
+
+  at_first : (call : Call) → IsPlace call 0
+  at_first (calls.WriteAt slot at []) = inl refl
+  at_first (calls.WriteAt slot at (v ∷ vs)) = inr (omega arith)
+  at_first call = tt
 
   -- it asks for a call, of which nothing is made yet
   pub asks_call : (m : Op) (call : Call) (h : History) → asks m ≡ Ask call → Stands (Where.Between m) h → Stands (Where.Within (asked m) call 0) h
@@ -169,11 +185,13 @@ module _ (me : Who) where
           let all : made ≡ rest = is ∙ ap (λ (l : List LogItem). l ++ rest) (none_before call) in
           subst (λ (l : List LogItem). known.During me b.0 m call reply l h) all ((known.inductive me b.0).enters m call reply made h b.1 e fits makes);
     };
+    place = at_first call;
+    seen = b.2;
   }
 
   -- it gives its answer
   pub gives_answer : (m : Op) (given : Answer) (h : History) → asks m ≡ Done given → Stands (Where.Between m) h → Stands (Where.Ending given) h
-  gives_answer m given h e b = record { request = b.0; m = m; gives = e; knows = b.1 }
+  gives_answer m given h e b = record { request = b.0; m = m; gives = e; knows = b.1; seen = machine_done me m given h e b.2 }
 
   -- ---- one item of a call
 
@@ -256,8 +274,9 @@ module _ (me : Who) where
       let news = step_items (progresses.Reply reply) me true call done in
       let d = w.making.goes reply (items_before me call done ++ news) news (answers_so call done reply fits) (made_all call done reply fits) refl in
       let g = go_over w.request w.m call reply news h d (follow h news legal) in
-      let knows = (known.inductive me w.request).leaves w.m n' call reply (fold with_item h news) g.1 (subst (λ (z : Op). Fed z reply n') (sym w.asked_is) fed) in
-      (g.0, (w.request, subst (known.Between me w.request n') (goes_by h news) knows))
+      let fed' : Fed (asked w.m) reply n' = subst (λ (z : Op). Fed z reply n') (sym w.asked_is) fed in
+      let knows = (known.inductive me w.request).leaves w.m n' call reply (fold with_item h news) g.1 fed' in
+      (g.0, (w.request, subst (known.Between me w.request n') (goes_by h news) knows, machine_goes me w.m n' call reply done h w.making.asks_so w.seen fed' (answers_so call done reply fits) legal))
 
   -- a byte of the write is made, and others are left
   byte_made : (n : Op) (slot at : ℕ) (bytes : List ℕ) (done : ℕ) (h : History) → IsWithin n (calls.WriteAt slot at bytes) done h → done + 1 < length bytes → CanFollow h (byte slot at bytes done)
@@ -270,17 +289,21 @@ module _ (me : Who) where
       let apart : (rest : List LogItem) → items_before me call (done + 1) ++ rest ≡ items_before me call done ++ x ∷ rest = λ rest. ap (λ (l : List LogItem). l ++ rest) next ∙ append_assoc (items_before me call done) (x ∷ []) rest in
       let failed : List LogItem = items.Failed me false ∷ [] in
       let rules : KeepsRules h x =
-      ((known.inductive me w.request).steps w.m call replies.Failed x failed h (w.making.goes replies.Failed (items_before me call (done + 1) ++ failed) (x ∷ failed) tt (done + 1, refl) (apart failed)) legal).0 in
-      (rules, record {
-        request = w.request;
-        m = w.m;
-        asked_is = w.asked_is;
-        inside = in_then me w.request h x w.inside (within_inner me x refl) legal rules;
-        making = record {
-          asks_so = w.making.asks_so;
-          goes = λ reply made rest fits makes e. ((known.inductive me w.request).steps w.m call reply x rest h (w.making.goes reply made (x ∷ rest) fits makes (e ∙ apart rest)) legal).1;
-        };
-      })
+      ((known.inductive me w.request).steps w.m call replies.Failed x failed h (w.making.goes replies.Failed (items_before me call (done + 1) ++ failed) (x ∷ failed) tt (done + 1, refl) (apart failed)) legal).0 in (
+        rules,
+        record {
+          request = w.request;
+          m = w.m;
+          asked_is = w.asked_is;
+          inside = in_then me w.request h x w.inside (within_inner me x refl) legal rules;
+          making = record {
+            asks_so = w.making.asks_so;
+            goes = λ reply made rest fits makes e. ((known.inductive me w.request).steps w.m call reply x rest h (w.making.goes reply made (x ∷ rest) fits makes (e ∙ apart rest)) legal).1;
+          };
+          place = inr more;
+          seen = byte_keeps me (slots w.m) (hurt w.m) h slot (at + done) (get_or bytes done 0) w.seen;
+        },
+      )
 
   place_is : (place : Where) (n : Op) (call : Call) (done : ℕ) (h : History) → Leads n call done progresses.More place → Stands (Where.Within n call (done + 1)) h → Stands place h
   place_is (Where.Within n' call' done') n call done h leads s =
@@ -307,26 +330,31 @@ module _ (me : Who) where
   pub ends : (given answer : Answer) (h : History) → Stands (Where.Ending given) h → IsEndOf given answer → CanFollow h (items.End me answer) → KeepsRules h (items.End me answer) × Stands Where.Outside (with_item h (items.End me answer))
   ends given answer h s is legal =
       let rules = known.ends me s.request s.m given answer h s.knows s.gives is in
-      (rules, out_ended me h answer (known.is_in me s.request s.m h s.knows).order legal rules)
+      (rules, (out_ended me h answer (known.is_in me s.request s.m h s.knows).order legal rules, none_still me h (items.End me answer) s.seen.filled refl))
 
   -- ---- a job that is taken outside of operations
 
   pub takes : (ticket : Ticket) (h : History) → Stands Where.Outside h → CanFollow h (items.Taken me ticket) → KeepsRules h (items.Taken me ticket) × Stands Where.Outside (with_item h (items.Taken me ticket))
   takes ticket h out legal =
       let x : LogItem = items.Taken me ticket in
-      let rules = still_rules h x out.order tt (record { names = λ name. refl; files = λ file. refl }) in
-      (rules, record {
-        order = stays_in_order.1 h x out.order legal rules;
-        idle = ap (λ (c : Course). c.inside) (fold-append (course_after me) (record { inside = false; hurt = false }) h.log (x ∷ [])) ∙ rw (seat_self me) out.idle;
-      })
+      let rules = still_rules h x out.0.order tt (record { names = λ name. refl; files = λ file. refl }) in (
+        rules,
+        (
+          record {
+            order = stays_in_order.1 h x out.0.order legal rules;
+            idle = ap (λ (c : Course). c.inside) (fold-append (course_after me) (record { inside = false; hurt = false }) h.log (x ∷ [])) ∙ rw (seat_self me) out.0.idle;
+          },
+          none_still me h x out.1 refl,
+        ),
+      )
 
   -- ---- others' items
 
   -- an item of another that keeps the rules and stops no process of the seat
   pub stays : (place : Where) (h : History) (x : LogItem) → Stands place h → is_own me x ≡ false → is_stop me.process x ≡ false → CanFollow h x → KeepsRules h x → Stands place (with_item h x)
-  stays Where.Outside h x s other goes legal rules = out_other me h x s other legal rules
-  stays (Where.Begun request) h x s other goes legal rules = record { fits = s.fits; inside = in_then me request h x s.inside (within_other me x other) legal rules }
-  stays (Where.Between m) h x s other goes legal rules = (s.0, (known.inductive me s.0).between m x h s.1 other goes legal rules)
+  stays Where.Outside h x s other goes legal rules = (out_other me h x s.0 other legal rules, none_other me h x s.1 other goes)
+  stays (Where.Begun request) h x s other goes legal rules = record { fits = s.fits; inside = in_then me request h x s.inside (within_other me x other) legal rules; seen = other_keeps me (λ at. false) false h x s.seen other goes }
+  stays (Where.Between m) h x s other goes legal rules = (s.0, (known.inductive me s.0).between m x h s.1 other goes legal rules, other_keeps me (slots m) (hurt m) h x s.2 other goes)
   stays (Where.Within n call done) h x s other goes legal rules = record {
     request = s.request;
     m = s.m;
@@ -336,5 +364,37 @@ module _ (me : Who) where
       asks_so = s.making.asks_so;
       goes = λ reply made rest fits makes e. (known.inductive me s.request).others s.m call reply rest x h (s.making.goes reply made rest fits makes e) other goes legal rules;
     };
+    place = s.place;
+    seen = other_keeps me (slots s.m) (hurt s.m) h x s.seen other goes;
   }
-  stays (Where.Ending given) h x s other goes legal rules = record { request = s.request; m = s.m; gives = s.gives; knows = (known.inductive me s.request).between s.m x h s.knows other goes legal rules }
+  stays (Where.Ending given) h x s other goes legal rules = record {
+    request = s.request;
+    m = s.m;
+    gives = s.gives;
+    knows = (known.inductive me s.request).between s.m x h s.knows other goes legal rules;
+    seen = other_keeps me (λ at. false) true h x s.seen other goes;
+  }
+
+  -- ---- what it may do there
+
+  -- the call that its machine asked for
+  pub may_call : (n : Op) (call : Call) (done : ℕ) (h : History) → Stands (Where.Within n call done) h → MayCall (seen_of me h) call
+  may_call n call done h s = machine_may me s.m call h s.making.asks_so s.seen
+
+  -- the byte that comes next is one of the write's
+  pub is_place : (n : Op) (call : Call) (done : ℕ) (h : History) → Stands (Where.Within n call done) h → IsPlace call done
+  is_place n call done h s = s.place
+
+  -- its operation is open
+  pub is_inside : (n : Op) (call : Call) (done : ℕ) (h : History) → Stands (Where.Within n call done) h → (course_of me h.log).inside ≡ true
+  is_inside n call done h s = s.seen.inside
+
+  pub ending_inside : (given : Answer) (h : History) → Stands (Where.Ending given) h → (course_of me h.log).inside ≡ true
+  ending_inside given h s = s.seen.inside
+
+  pub begun_inside : (request : Request) (h : History) → Stands (Where.Begun request) h → (course_of me h.log).inside ≡ true
+  begun_inside request h s = s.seen.inside
+
+  -- or none is
+  pub out_idle : (h : History) → Stands Where.Outside h → (course_of me h.log).inside ≡ false
+  out_idle h s = s.0.idle

@@ -32,7 +32,10 @@ impl Op {
     {
         match request {
             Request::Get {
-                store, driver, key, ..
+                store,
+                driver,
+                key,
+                ..
             } => {
                 let driver = driver.copy()?;
                 Ok(Op::Get(FolderGet::new(alloc, store.root, driver, *key)))
@@ -52,9 +55,7 @@ impl Op {
                     return Err(NoMemory);
                 };
                 let driver = driver.copy()?;
-                Ok(Op::Put(FolderPut::new(
-                    alloc, store.root, driver, *key, item,
-                )))
+                Ok(Op::Put(FolderPut::new(alloc, store.root, driver, *key, item)))
             }
             _ => Err(NoMemory),
         }
