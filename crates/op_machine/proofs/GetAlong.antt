@@ -1,8 +1,7 @@
 -- A lookup along the log, between its calls and within one: its own items keep the rules among seats.
-use Rattle.std.proofs.Common.{◌≡◌, ◌<◌, inl, inr, ℕ, Bool, true, false, cond, ltb, List, [], ◌∷◌, ◌++◌, fold, length, take, drop, Option, Some, None, refl, sym, ap, subst, ◌∙◌, arith}
+use Rattle.std.proofs.Common.{◌≡◌, ◌<◌, inl, inr, ℕ, Bool, true, false, cond, ltb, List, [], ◌∷◌, length, take, drop, Option, Some, None, refl, sym, ap, subst, ◌∙◌, arith}
 use Rattle.std.specs.Prelude.{IsSomeAnd}
-use Rattle.std.proofs.lemmas.Bool.{ltb-true, false≢true}
-use Rattle.std.proofs.lemmas.List.{append-nil}
+use Rattle.std.proofs.lemmas.Bool.{ltb-true}
 use Rattle.cache_types.specs.Driver.{DriverKeys, IsDriver}
 use Rattle.cache_types.specs.declared.answer.Answer.{Answer}
 use Rattle.cache_types.specs.declared.answer.Answer.TheVariants as answers
@@ -11,32 +10,26 @@ use Rattle.cache_types.specs.declared.limits.TheConstants.{MAX_ITEM}
 use Rattle.cache_types.specs.declared.name.Name.{Name}
 use Rattle.cache_types.specs.declared.name.Name.TheVariants.{Entry}
 use Rattle.cache_types.specs.declared.request.Request.{Request}
-use Rattle.cache_types.specs.declared.request.Request.TheVariants as requests
 use Rattle.cache_types.specs.declared.request.RoPlan.{RoPlan}
 use Rattle.cache_types.specs.declared.seat.Who.{Who}
-use Rattle.cache_types.specs.declared.store.Store.{Store}
 use Rattle.file_log.specs.declared.call.Call.{Call}
 use Rattle.file_log.specs.declared.call.Call.TheVariants.{OpenOld, Length, ReadAt, Close}
 use Rattle.file_log.specs.declared.item.LogItem.{LogItem}
 use Rattle.file_log.specs.declared.item.LogItem.TheVariants as items
 use Rattle.file_log.specs.declared.reply.Reply.{Reply}
 use Rattle.file_log.specs.declared.reply.Reply.TheVariants as replies
-use Rattle.file_log.specs.Along.{All, Keeps}
 use Rattle.file_log.specs.Effect.{applied}
-use Rattle.file_log.specs.Exchange.{Answers, Exchange}
-use Rattle.file_log.specs.Legal.{Legal}
-use Rattle.file_log.specs.Log.{History, with_items, own, is_own, is_stop, NoStop}
-use Rattle.file_log.specs.Seat.{course_of}
-use Rattle.file_log.specs.State.{state_of, disk_of}
+use Rattle.file_log.specs.Exchange.{Answers}
+use Rattle.file_log.specs.Log.{History, is_own, is_stop}
+use Rattle.file_log.specs.State.{disk_of}
 use Rattle.file_log.proofs.All.{seat_self}
 use Rattle.files_api.specs.declared.machine.Step.TheVariants.{Ask, Done}
-use Rattle.files_api.specs.Drive.{Runs, items_of_all, IsEndOf}
+use Rattle.files_api.specs.Drive.{IsEndOf}
 use Rattle.item_frame.specs.Item.{Reads}
 use Rattle.item_frame.proofs.Laws.{at_most}
 use Rattle.folder_rules.specs.Changes.{with_item}
 use Rattle.folder_rules.specs.Operations.{is_bound}
 use Rattle.folder_rules.specs.Rules.{AnswersAreEarned, KeepsRules}
-use Rattle.folder_rules.specs.Whole.{folder_of}
 use Rattle.folder_changes.specs.Frame.{Leaves}
 use Rattle.folder_changes.proofs.Earning.{meets}
 use Rattle.folder_changes.proofs.Framing.{others_leave}
@@ -44,19 +37,14 @@ use Rattle.folder_store.specs.declared.get.FolderGet.{FolderGet}
 use Rattle.folder_store.specs.declared.get.Phase.{Phase}
 use Rattle.folder_store.specs.declared.get.Phase.TheVariants.{Opening, Measuring, Reading, Closing, Ended, Spent}
 use Rattle.folder_store.specs.Finds.{Finds}
-use Rattle.folder_store.specs.Keeping.{HasKept, KeepsRulesAmong, OthersKeepRules, WasLacking, AsksGet}
 use Rattle.folder_store.specs.Phases.{IsNew, asks, asks_in, asked, after_asking, Next, Fed}
 use Rattle.folder_store.proofs.Calls.{IsLooking, item_for, makes_one, looks, ask_is, done_is, not_ask, not_done}
 use Rattle.folder_store.proofs.Finding.{whole_is}
 use Rattle.folder_store.proofs.GetKnown.{asked_for, Told, KnowsAt, told_then, knows_other, told_earns}
-use Rattle.folder_store.proofs.Keeping.{CanFollow, follow, order_of, still_rules, IsOut, out_other, out_ended, within_inner, within_other, IsIn, in_then, begin_rules, begun, end_rules}
+use Rattle.folder_store.proofs.Keeping.{CanFollow, still_rules, within_inner, within_other, IsIn, in_then, end_rules}
 use Rattle.folder_store.proofs.Opened.{HasOpen, opened_now, missing_now, open_then, in_slot, seen_gives, seen_lacks}
-use Rattle.folder_store.proofs.PutPlaces.{all_at}
-use Rattle.folder_store.proofs.Since.{seen_since, before_too, own_stands}
 use Rattle.folder_store.proofs.Still.{looking_still}
-use Rattle.folder_rules.specs.Holds.{address, IsHeld}
-use Rattle.folder_rules.proofs.Histories.{goes_by}
-use Rattle.files_api.proofs.Weave.{Inductive, Outer}
+use Rattle.files_api.proofs.Weave.{Inductive}
 
 -- the item of a call that only looks
 mine : (me : Who) (call : Call) (reply : Reply) → is_own me (item_for me call reply) ≡ true

@@ -1,5 +1,5 @@
 -- What is known of a seat's operation, whichever its machine is: between its calls, and within one.
-use Rattle.std.proofs.Common.{◌≡◌, inl, inr, ℕ, true, false, nat_eq, List, [], ◌∷◌, length, Option, Some, None, refl, sym, ap, ◌∙◌, subst}
+use Rattle.std.proofs.Common.{◌≡◌, inl, inr, ℕ, true, false, nat_eq, List, [], ◌∷◌, length, Option, Some, None, sym, ◌∙◌, subst}
 use Rattle.cache_types.specs.Driver.{DriverKeys, IsDriver}
 use Rattle.cache_types.specs.declared.answer.Answer.{Answer}
 use Rattle.cache_types.specs.declared.answer.Answer.TheVariants as answers
@@ -9,13 +9,13 @@ use Rattle.cache_types.specs.declared.request.RoPlan.{RoPlan}
 use Rattle.cache_types.specs.declared.seat.Who.{Who}
 use Rattle.file_log.specs.declared.call.Call.{Call}
 use Rattle.file_log.specs.declared.item.LogItem.{LogItem}
-use Rattle.file_log.specs.declared.item.LogItem.TheVariants.{Begin, End}
+use Rattle.file_log.specs.declared.item.LogItem.TheVariants.{End}
 use Rattle.file_log.specs.declared.reply.Reply.{Reply}
 use Rattle.file_log.specs.Exchange.{Answers, Makes}
 use Rattle.file_log.specs.Log.{History, is_own, is_stop}
 use Rattle.files_api.specs.declared.machine.Step.TheVariants.{Ask, Done}
 use Rattle.files_api.specs.Drive.{IsEndOf}
-use Rattle.files_api.proofs.Weave.{Inductive, Outer}
+use Rattle.files_api.proofs.Weave.{Inductive}
 use Rattle.item_frame.specs.Item.{Reads}
 use Rattle.folder_rules.specs.Changes.{with_item}
 use Rattle.folder_rules.specs.Operations.{IsInside}
@@ -27,7 +27,7 @@ use Rattle.folder_store.proofs.AmongKnown.{Task}
 use Rattle.folder_store.proofs.AmongKnown as tasks
 use Rattle.folder_store.proofs.Calls.{done_is, not_ask}
 use Rattle.folder_store.proofs.GetKnown as lookups
-use Rattle.folder_store.proofs.Keeping.{CanFollow, IsOut, out_other, out_ended, IsIn, in_then, within_other, begin_rules, begun, end_rules}
+use Rattle.folder_store.proofs.Keeping.{CanFollow, IsIn, in_then, within_other, end_rules}
 use Rattle.folder_store.proofs.PutEnds.{filled}
 use Rattle.folder_store.specs.Phases as get_phases
 use Rattle.folder_store.specs.Phases.{IsNew}

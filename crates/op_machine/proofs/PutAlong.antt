@@ -1,35 +1,26 @@
 -- A put along the log, between its calls and within one: its own items keep the rules among seats.
-use Rattle.std.proofs.Common.{◌≡◌, inl, inr, ℕ, true, false, nat_eq, List, [], ◌∷◌, ◌++◌, length, sym, ap, ◌∙◌, subst}
-use Rattle.std.proofs.lemmas.List.{append-nil}
+use Rattle.std.proofs.Common.{◌≡◌, inl, inr, ℕ, true, false, nat_eq, List, [], ◌∷◌, length, sym, ap, ◌∙◌, subst}
 use Rattle.cache_types.specs.Driver.{DriverKeys}
 use Rattle.cache_types.specs.declared.answer.Answer.{Answer}
 use Rattle.cache_types.specs.declared.answer.Answer.TheVariants as answers
 use Rattle.cache_types.specs.declared.key.Key.{Key}
-use Rattle.cache_types.specs.declared.meta.Meta.{Meta}
 use Rattle.cache_types.specs.declared.request.Request.{Request}
-use Rattle.cache_types.specs.declared.request.Request.TheVariants as requests
-use Rattle.cache_types.specs.declared.seat.Who.{Who}
-use Rattle.cache_types.specs.declared.store.Store.{Store}
 use Rattle.file_log.specs.declared.call.Call.{Call}
 use Rattle.file_log.specs.declared.item.LogItem.{LogItem}
-use Rattle.file_log.specs.declared.item.LogItem.TheVariants.{Begin, End}
+use Rattle.file_log.specs.declared.item.LogItem.TheVariants.{End}
 use Rattle.file_log.specs.declared.reply.Reply.{Reply}
 use Rattle.file_log.specs.declared.reply.Reply.TheVariants as replies
-use Rattle.file_log.specs.Along.{Keeps}
 use Rattle.file_log.specs.Effect.{applied}
-use Rattle.file_log.specs.Exchange.{Answers, Makes, Exchange}
-use Rattle.file_log.specs.Legal.{Legal}
-use Rattle.file_log.specs.Log.{History, is_own, is_stop, own, NoStop}
-use Rattle.file_log.specs.Seat.{course_of}
-use Rattle.file_log.specs.State.{state_of, disk_of}
+use Rattle.file_log.specs.Exchange.{Answers, Makes}
+use Rattle.file_log.specs.Log.{History, is_own, is_stop}
+use Rattle.file_log.specs.State.{disk_of}
 use Rattle.files_api.specs.declared.machine.Step.{Step}
 use Rattle.files_api.specs.declared.machine.Step.TheVariants as steps
-use Rattle.files_api.specs.Drive.{Runs, items_of_all, IsEndOf}
-use Rattle.files_api.proofs.Weave.{Inductive, Outer, weave_operation}
+use Rattle.files_api.specs.Drive.{IsEndOf}
+use Rattle.files_api.proofs.Weave.{Inductive}
 use Rattle.item_frame.specs.Item.{Reads}
 use Rattle.folder_rules.specs.Changes.{with_item}
 use Rattle.folder_rules.specs.Rules.{KeepsRules}
-use Rattle.folder_rules.specs.Whole.{folder_of}
 use Rattle.folder_changes.specs.Frame.{Leaves}
 use Rattle.folder_changes.proofs.Framing.{others_leave}
 use Rattle.folder_store.specs.declared.put.FolderPut.{FolderPut}
@@ -37,8 +28,6 @@ use Rattle.folder_store.specs.declared.put_phase.Besides.TheVariants.{Lock}
 use Rattle.folder_store.specs.declared.put_phase.Look.TheVariants.{First}
 use Rattle.folder_store.specs.declared.put_phase.PutPhase.{PutPhase}
 use Rattle.folder_store.specs.declared.put_phase.PutPhase.TheVariants.{Opening, Measuring, Reading, ReadingFront, Leaving, OpeningLock, Locking, Pausing, Evicting, Evicted, Making, Cutting, Writing, Renaming, ClosingEntry, ClosingTemp, ClosingLock, Ended, Spent}
-use Rattle.folder_store.specs.Keeping.{KeepsRulesAmong}
-use Rattle.folder_store.specs.Put.{AsksPut, blob_in}
 use Rattle.folder_store.specs.PutPhases.{IsNewPut, asks_put, asks_put_in, asked_put, after_put_asking, item_after, FedPut, NextPut}
 use Rattle.folder_store.proofs.AmongChanges.{evicting, making, cutting, renaming, closing_entry, closing_temp, closing_lock}
 use Rattle.folder_store.proofs.AmongKnown.{Task, asked_for, In, Told, KnowsAt, going_other, written_other, knows_other, told_earns}
@@ -46,8 +35,7 @@ use Rattle.folder_store.proofs.AmongLock.{opening_lock, locking, pausing}
 use Rattle.folder_store.proofs.AmongLooks.{opening, measuring, reading, reading_front, leaving}
 use Rattle.folder_store.proofs.AmongSteps.{asks_at, MakesIn, Stepped, Follows, into}
 use Rattle.folder_store.proofs.AmongWrites.{Doing, Moved, writing, writing_starts}
-use Rattle.folder_store.proofs.Keeping.{CanFollow, follow, order_of, IsOut, out_other, out_ended, within_other, in_then, begin_rules, begun, end_rules}
-use Rattle.folder_store.proofs.PutEnds.{filled, asked_reads}
+use Rattle.folder_store.proofs.Keeping.{CanFollow, within_other, in_then, end_rules}
 use Rattle.folder_store.proofs.PutMakes.{IsPlain, none_made}
 use Rattle.folder_store.proofs.PutSteps.{AnswersIn}
 

@@ -1,5 +1,5 @@
 -- What the log says of a seat in an operation is what its machine keeps: which slots are filled, and whether a call failed.
-use Rattle.std.proofs.Common.{◌≡◌, ◌+◌, ◌<◌, ℕ, cond, ◌&&◌, Bool, true, false, nat_eq, List, [], ◌∷◌, ◌++◌, length, take, get_or, Option, Some, None, refl, sym, ap, ◌∙◌, subst}
+use Rattle.std.proofs.Common.{◌≡◌, ◌+◌, ℕ, cond, ◌&&◌, Bool, true, false, nat_eq, List, [], ◌∷◌, length, take, get_or, Option, Some, None, refl, sym, ap, ◌∙◌, subst}
 use Rattle.std.specs.Prelude.{is_some}
 use Rattle.std.proofs.lemmas.Bool.{false≢true}
 use Rattle.std.proofs.lemmas.List.{append-nil}
@@ -8,7 +8,6 @@ use Rattle.cache_types.specs.declared.answer.Answer.{Answer}
 use Rattle.cache_types.specs.declared.name.Name.{Name}
 use Rattle.cache_types.specs.declared.request.Request.{Request}
 use Rattle.cache_types.specs.declared.seat.Who.{Who}
-use Rattle.cache_types.specs.Seats.{same_seat}
 use Rattle.cache_types.proofs.Names.{same_name_decides}
 use Rattle.disk_laws.proofs.Slots.{other_slots}
 use Rattle.file_log.specs.declared.call.Call.{Call}
@@ -23,7 +22,7 @@ use Rattle.file_log.specs.Effect.{applied, done_call}
 use Rattle.file_log.specs.Exchange.{Answers}
 use Rattle.file_log.specs.Legal.{Legal, IsDone}
 use Rattle.file_log.specs.Log.{History, with_items, is_own, is_stop}
-use Rattle.file_log.specs.Seat.{Seen, MayCall, SlotFits, IsCalm, filled_by, seen_after, Course, course_after, course_of}
+use Rattle.file_log.specs.Seat.{MayCall, SlotFits, IsCalm, filled_by, seen_after, Course, course_after, course_of}
 use Rattle.file_log.specs.State.{state_of, disk_of}
 use Rattle.file_log.specs.Writing.{written}
 use Rattle.file_log.proofs.All.{seat_self}

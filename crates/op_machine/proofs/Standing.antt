@@ -1,6 +1,5 @@
 -- Where a seat stands between two items of the log among seats that keep the rules, and how its own items and those of others lead on.
-use Rattle.std.proofs.Common.{◌≡◌, ◌<◌, ◌+◌, inl, inr, ℕ, zero, suc, Bool, true, false, cond, nat_eq, List, [], ◌∷◌, ◌++◌, length, take, get_or, Option, Some, None, refl, sym, ap, ◌∙◌, subst, append_assoc, arith}
-use Rattle.std.proofs.lemmas.List.{append-nil}
+use Rattle.std.proofs.Common.{◌≡◌, ◌<◌, ◌+◌, inl, inr, ℕ, zero, suc, true, false, nat_eq, List, [], ◌∷◌, ◌++◌, length, take, get_or, Some, refl, sym, ap, ◌∙◌, subst, append_assoc, arith}
 use Rattle.cache_types.specs.declared.answer.Answer.{Answer}
 use Rattle.cache_types.specs.declared.answer.Answer.TheVariants as answers
 use Rattle.cache_types.specs.declared.limits.TheConstants.{MAX_BLOB}
@@ -45,7 +44,6 @@ use Rattle.std.proofs.Math.Seq.{take-length}
 use Rattle.std.proofs.lemmas.Bool.{eq-eqb, lt-ltb, ne_eqb}
 use Rattle.std.proofs.lemmas.List.Sums.{fold-append}
 use Rattle.std.specs.Prelude.{fold}
-use Rattle.cache_types.specs.declared.key_list.KeyList.{KeyList}
 use Rattle.cache_types.specs.declared.limits.TheConstants.{MAX_KEYS}
 use Rattle.cache_types.specs.declared.meta.Meta.{Meta}
 use Rattle.cache_types.specs.declared.meta.Meta.TheVariants.{Unknown, Glsl}

@@ -1,5 +1,5 @@
 -- Which requests are served, and by which machine.
-use Rattle.std.specs.Prelude.{◌≡◌, ◌⊎◌, ◌≤◌, ◌<◌, false, [], length, Some}
+use Rattle.std.specs.Prelude.{◌≡◌, ◌≤◌, ◌<◌, false, [], length, Some}
 use Rattle.cache_types.specs.declared.answer.Answer.TheVariants.{TooLarge}
 use Rattle.cache_types.specs.declared.limits.TheConstants.{MAX_BLOB, MAX_KEYS}
 use Rattle.cache_types.specs.declared.request.Request.{Request}
