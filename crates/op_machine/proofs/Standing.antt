@@ -2,9 +2,7 @@
 use Rattle.std.proofs.Common.{◌≡◌, ◌<◌, ◌+◌, inl, inr, ℕ, zero, suc, true, false, nat_eq, List, [], ◌∷◌, ◌++◌, length, take, get_or, Some, refl, sym, ap, ◌∙◌, subst, append_assoc, arith}
 use Rattle.cache_types.specs.declared.answer.Answer.{Answer}
 use Rattle.cache_types.specs.declared.answer.Answer.TheVariants as answers
-use Rattle.cache_types.specs.declared.limits.TheConstants.{MAX_BLOB}
 use Rattle.cache_types.specs.declared.request.Request.{Request}
-use Rattle.cache_types.specs.declared.request.Request.TheVariants as requests
 use Rattle.cache_types.specs.declared.seat.Who.{Who}
 use Rattle.file_log.specs.declared.call.Call.{Call}
 use Rattle.file_log.specs.declared.call.Call.TheVariants as calls
@@ -33,46 +31,25 @@ use Rattle.folder_changes.proofs.Earning.{earns}
 use Rattle.folder_changes.proofs.Ordering.{stays_in_order}
 use Rattle.folder_store.proofs.Keeping.{CanFollow, IsOut, out_other, out_ended, IsIn, in_then, within_other, begin_rules, begun}
 use Rattle.op_machine.specs.declared.op.Op.{Op}
-use Rattle.op_machine.specs.declared.op.Op.TheVariants.{Get, Put, Refuse}
+use Rattle.op_machine.specs.declared.op.Op.TheVariants.{Refuse}
 use Rattle.op_machine.specs.Machine.{asks, asked, Fed, slots, hurt}
 use Rattle.op_machine.specs.Places.{Where, Leads}
 use Rattle.op_machine.specs.Requests.{IsBuilt, IsOpOf}
 use Rattle.op_machine.proofs.Known as known
+use Rattle.op_machine.proofs.Starting.{starts, starts_empty}
 use Rattle.op_machine.proofs.Slots.{HasSlots, HasNone, HasThose, other_keeps, none_other, none_still, byte_keeps, begun_has, machine_may, machine_done, machine_goes}
-use Rattle.std.proofs.Common.{◌⊎◌, ◌≤◌}
+use Rattle.std.proofs.Common.{◌⊎◌}
 use Rattle.std.proofs.Math.Seq.{take-length}
-use Rattle.std.proofs.lemmas.Bool.{eq-eqb, lt-ltb, ne_eqb}
+use Rattle.std.proofs.lemmas.Bool.{ne_eqb}
 use Rattle.std.proofs.lemmas.List.Sums.{fold-append}
 use Rattle.std.specs.Prelude.{fold}
-use Rattle.cache_types.specs.declared.limits.TheConstants.{MAX_KEYS}
-use Rattle.cache_types.specs.declared.meta.Meta.{Meta}
-use Rattle.cache_types.specs.declared.meta.Meta.TheVariants.{Unknown, Glsl}
-use Rattle.cache_types.specs.declared.store.Layout.{Layout}
-use Rattle.cache_types.specs.declared.store.Layout.TheVariants.{Folder}
-use Rattle.cache_types.specs.declared.store.Store.{Store}
 use Rattle.file_log.specs.Exchange.{MayGet, MayNumber, MayList, items_done, byte_items}
-use Rattle.file_log.specs.Fits.{IsMetaOfKeys}
 use Rattle.file_log.specs.Seat.{Course, course_after}
 use Rattle.file_log.proofs.All.{seat_self}
 use Rattle.file_model.specs.Steps.{IsLast, done_items}
 use Rattle.world_tables.proofs.Runs.{byte_items-next}
-use Rattle.item_frame.specs.Item.{item_of, IsMeta, Reads}
-use Rattle.item_frame.specs.Writing.{key_count}
-use Rattle.folder_rules.specs.Answers.{is_too_large}
-use Rattle.folder_rules.specs.Operations.{IsInside}
-use Rattle.folder_rules.specs.Rules.{AnswersAreEarned}
-use Rattle.folder_rules.specs.Whole.{folder_of}
 use Rattle.folder_rules.proofs.Histories.{goes_by}
-use Rattle.folder_store.specs.declared.get.Phase.{Phase}
-use Rattle.folder_store.specs.declared.put_phase.PutPhase.{PutPhase}
-use Rattle.folder_store.specs.Phases.{slots_in, hurt_in}
-use Rattle.folder_store.specs.PutPhases.{put_slots_in, put_hurt_in}
-use Rattle.folder_store.proofs.AmongKnown.{Task}
 use Rattle.folder_store.proofs.Keeping.{follow, still_rules, within_inner}
-
--- a blob that is too large for an item is
-is_large : (blob : List ℕ) → MAX_BLOB < length blob → is_too_large blob (length blob) ≡ true
-is_large blob large = rw (eq-eqb (length blob) (length blob) refl, lt-ltb MAX_BLOB (length blob) large) refl
 
 module _ (me : Who) where
   -- so many items of a call were made, whatever its reply will be and whatever it makes until then
@@ -124,30 +101,9 @@ module _ (me : Who) where
 
   -- ---- its machine
 
-  store_is : (store : Store) → store.layout ≡ Folder → folder_of store.root ≡ store
-  store_is store e = ap (λ (l : Layout). record { root = store.root; layout = l }) (sym e)
-
-  meta_fits : (meta : Meta) → key_count meta ≤ MAX_KEYS → IsMetaOfKeys meta → IsMeta meta
-  meta_fits Unknown few fits = tt
-  meta_fits (Glsl keys) few fits = (few, fits)
-
   -- the machine that was made for the request
   pub gets_machine : (request : Request) (m : Op) (h : History) → IsBuilt request → IsOpOf request m → Stands (Where.Begun request) h → Stands (Where.Between m) h
-  gets_machine (requests.Get store driver key ro) (Get m) h built new b =
-      let request : Request = requests.Get store driver key ro in
-      let for : known.ForGet me request = record { root = store.root; driver = driver; key = key; ro = ro; fits = b.fits.0; request_is = ap (λ (s : Store). requests.Get s driver key ro) (store_is store built.0) } in
-      (request, known.get_starts me request for m h new b.inside, subst (λ (p : Phase). HasSlots me (slots_in p) (hurt_in p) h) (sym new.opening) b.seen)
-  gets_machine (requests.Put store driver key meta blob limit) (Put m) h built new b =
-      let request : Request = requests.Put store driver key meta blob limit in
-      let task : Task = record { me = me; root = store.root; driver = driver; key = key; meta = meta; blob = blob; limit = limit; item = item_of driver meta blob } in
-      let reads : Reads driver (item_of driver meta blob) blob = record { meta = meta; fits = meta_fits meta built.1 b.fits.2; size = new.0; whole = refl } in
-      let for : known.ForPut me request = record { task = task; mine = refl; reads = reads; request_is = ap (λ (s : Store). requests.Put s driver key meta blob limit) (store_is store built.0) } in
-      (request, known.put_starts me request for m h new.1 b.inside, subst (λ (p : PutPhase). HasSlots me (put_slots_in p) (put_hurt_in p) h) (sym new.1.opening) b.seen)
-  gets_machine (requests.Put store driver key meta blob limit) (Refuse m) h built new b =
-      let request : Request = requests.Put store driver key meta blob limit in
-      let large : (at : History) → IsInside at.log me request → AnswersAreEarned at (items.End me (answers.TooLarge (length blob))) = λ at i. (earns at me).too_large store driver key meta blob limit (length blob) i (is_large blob new.0) in
-      (request, known.given_starts me request m h b.inside (subst (known.IsEarnedByAny me request) (sym new.1) large), b.seen)
-  gets_machine request m h built new b = absurd new
+  gets_machine request m h built new b = (request, starts me request m h built new b.fits b.inside, starts_empty me request m h new b.seen)
 
   -- there was no memory for one
   pub gets_none : (request : Request) (h : History) → Stands (Where.Begun request) h → Stands (Where.Ending answers.NoMemory) h

@@ -19,6 +19,11 @@ IsBuilt (requests.Get store driver key ro) = (store.layout ≡ Folder) × (ro.na
 IsBuilt (requests.Put store driver key meta blob limit) = (store.layout ≡ Folder) × (key_count meta ≤ MAX_KEYS)
 IsBuilt request = ⊥
 
+-- a put of a blob that no item can have
+abbrev pub IsLargePut : Request → Type 0
+IsLargePut (requests.Put store driver key meta blob limit) = MAX_BLOB < length blob
+IsLargePut request = ⊥
+
 -- The machine of a request, which has done nothing yet: a lookup's; of a put that of the blob's item, or where the blob is too
 -- large the one that answers so.
 abbrev pub IsOpOf : Request → Op → Type 0
