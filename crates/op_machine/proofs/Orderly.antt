@@ -19,11 +19,14 @@ use Rattle.file_log.specs.Along.{All}
 use Rattle.file_log.specs.Exchange.{items_refused}
 use Rattle.file_log.specs.Legal.{Legal}
 use Rattle.file_log.specs.Log.{History, seat_of, is_seat, is_own, is_stop}
+use Rattle.file_log.specs.Disk.{Start}
+use Rattle.file_log.specs.Seat.{course_of}
 use Rattle.file_log.specs.State.{State, first, after, halted_after, state_of}
 use Rattle.file_log.proofs.All.{seat_self}
 use Rattle.file_model.specs.declared.step.Progress.{Progress}
 use Rattle.file_model.specs.declared.step.Progress.TheVariants as progresses
-use Rattle.file_model.specs.Steps.{byte_item, done_items, step_items, StepFits}
+use Rattle.file_model.specs.Steps.{byte_item, done_items, step_items, StepFits, Stepped}
+use Rattle.file_model.specs.Held.{Held, told}
 use Rattle.files_api.specs.Drive.{IsEndOf}
 use Rattle.item_frame.proofs.Numbers.{or_false}
 use Rattle.folder_rules.specs.Changes.{with_item}
@@ -37,7 +40,7 @@ use Rattle.folder_store.proofs.Keeping.{CanFollow, follow}
 use Rattle.op_machine.specs.Places.{Where}
 use Rattle.op_machine.specs.declared.op.Op.{Op}
 use Rattle.op_machine.specs.Places.{Leads}
-use Rattle.op_machine.proofs.Standing.{Stands, out_at_first, begins, steps, ends, takes, stays}
+use Rattle.op_machine.proofs.Standing.{Stands, out_at_first, begins, steps, ends, takes, stays, is_inside}
 
 -- an item of no seat keeps the rules
 pub unseated_keeps : (h : History) (x : LogItem) → seat_of x ≡ None → KeepsRules h x
@@ -206,6 +209,20 @@ step_comes me seats seats' log n call done progress o goes at fits legal leads o
     let here : Stands me (Where.Within n call done) (past log) = subst (λ (place : Where). Stands me place (past log)) at (o.stand me goes) in
     let s = steps me n call done progress (seats' me) (past log) here fits legal leads in
     own_items_come me seats seats' log (step_items progress me true call done) o (step_mine me progress call done) legal s.0 s.1 others
+
+-- The same of a world's step, whose log began on an empty disk.
+pub stepped_comes : (me : Who) (seats seats' : Who → Where) (old new : Held) (n : Op) (call : Call) (done : ℕ) (progress : Progress) → old.past.start ≡ [] → IsOrderly seats old.past.log → (state_of old.past).halted me.process ≡ false → seats me ≡ Where.Within n call done
+    → Stepped me call done progress old new → Leads n call done progress (seats' me) → OnlyMoves me seats seats' → (new.past.start ≡ []) × IsOrderly seats' new.past.log
+stepped_comes me seats seats' old new n call done progress empty o goes at s leads others =
+    let log : List LogItem = old.past.log in
+    let same : old.past ≡ past log = ap (λ (start : Start). record { start = start; log = log }) empty in
+    let goes' : GoesOn log me = subst (λ (h : History). (state_of h).halted me.process ≡ false) same goes in
+    let inside : (course_of me log).inside ≡ true = is_inside me n call done (past log) (subst (λ (place : Where). Stands me place (past log)) at (o.stand me goes')) in
+    let items : new ≡ told old (step_items progress me true call done) = subst (λ (b : Bool). new ≡ told old (step_items progress me b call done)) inside s.items in
+    let legal : Legal (state_of (past log)) (step_items progress me true call done) = subst (λ (h : History). Legal (state_of h) (step_items progress me true call done)) same (subst (λ (b : Bool). Legal (state_of old.past) (step_items progress me b call done)) inside s.legal) in
+    let fits : StepFits progress true call done = subst (λ (b : Bool). StepFits progress b call done) inside s.fits in
+    let comes = step_comes me seats seats' log n call done progress o goes' at fits legal leads others in
+    (ap (λ (w : Held). w.past.start) items ∙ empty, subst (IsOrderly seats') (sym (ap (λ (w : Held). w.past.log) items)) comes)
 
 -- ---- other items
 

@@ -21,11 +21,14 @@ pub enum Op {
 }
 
 impl Op {
-    /// The operation of a request, which has done nothing yet. It takes memory for the driver, and for a put's
-    /// item.
+    /// The operation of a request, which has done nothing yet.
     ///
     /// A put of a blob of more than [`MAX_BLOB`] bytes is refused by an operation that makes no call and answers
     /// `TooLarge` with the blob's length; that takes no memory.
+    ///
+    /// # Errors
+    ///
+    /// `NoMemory`, where there is none for the driver or the item.
     pub fn new(alloc: Global, request: &Request) -> Result<Op, NoMemory>
         requires built { IsBuilt request.now }
         ensures made { IfOk result (λ op. IsOpOf request.now op) }
