@@ -1,0 +1,4 @@
+pub mod Had
+pub mod Entries
+pub mod Tries
+pub mod Operations

@@ -1,0 +1,17 @@
+//! What the rules ask of a log's past, carried along it by code: the names that files have had, and the
+//! operations that seats are in. It tells of each item whether what it says was earned.
+#![tactic(auto)]
+
+mod entry;
+mod name_list;
+mod names_had;
+mod operation;
+mod operations;
+mod tables;
+mod tries;
+
+pub use name_list::NameList;
+pub use names_had::NamesHad;
+pub use operation::OpenOperation;
+pub use operations::Operations;
+pub use tries::HeldTries;
