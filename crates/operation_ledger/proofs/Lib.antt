@@ -1,0 +1,4 @@
+pub mod Names
+pub mod Counting
+pub mod Blobs
+pub mod Learning

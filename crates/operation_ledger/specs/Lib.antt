@@ -1,4 +1,7 @@
+pub mod NameLists
 pub mod Had
 pub mod Entries
 pub mod Tries
+pub mod Given
+pub mod Listed
 pub mod Operations

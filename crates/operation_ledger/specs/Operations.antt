@@ -8,11 +8,14 @@ use Rattle.file_log.specs.Disk.{Disk, bytes_in}
 use Rattle.file_log.specs.Effect.{applied}
 use Rattle.file_log.specs.declared.item.LogItem.{LogItem}
 use Rattle.folder_rules.specs.Kinds.{is_entry}
-use Rattle.log_summary.specs.Summary.{Operation, Summary, summed, gained}
-use Rattle.log_summary.specs.Telling.{In}
-use Rattle.operation_ledger.specs.Entries.{read_by}
+use Rattle.log_summary.specs.Summary.{Operation, Summary, gained, given_for}
+use Rattle.operation_ledger.specs.Entries.{entry_of, read_by}
+use Rattle.operation_ledger.specs.Given.{Learns}
 use Rattle.operation_ledger.specs.Had.{IsNamesHad}
-use Rattle.operation_ledger.specs.Tries.{tries_of}
+use Rattle.operation_ledger.specs.Listed.{AreListed, WasEntry}
+use Rattle.operation_ledger.specs.Tries.{AreTries}
+use Rattle.operation_ledger.specs.declared.given.Lately.{Lately}
+use Rattle.operation_ledger.specs.declared.given.Lately.TheVariants.{AsBefore, Gives}
 use Rattle.operation_ledger.specs.declared.names_had.NamesHad.{NamesHad}
 use Rattle.operation_ledger.specs.declared.operation.OpenOperation.{OpenOperation}
 use Rattle.operation_ledger.specs.declared.operations.Operations.{Operations}
@@ -21,18 +24,11 @@ use Rattle.world_tables.specs.Find.{find_by}
 use Rattle.world_tables.specs.Tables.{disk_at}
 use Rattle.world_tables.specs.declared.tables.Tables.{Tables}
 
+-- ---- one operation
+
 -- what a remembered file reads as for the operation stands among what was given
 abbrev pub IsRemembered : Disk → OpenOperation → Type 0
 IsRemembered d x = list_any (same_blob (read_by x.request (bytes_in d.files x.entry))) x.gave.items ≡ true
-
--- a remembered file is one that an entry has had
-abbrev pub WasEntry : List (Name × ℕ) → Option ℕ → Type 0
-WasEntry had None = Unit {0}
-WasEntry had (Some file) = (name : Name) × (is_entry name ≡ true) × In had (name, file)
-
--- each file that a name has is among those that names have had
-abbrev pub AreListed : List (Name × ℕ) → Disk → Type 0
-AreListed had d = (name : Name) (file : ℕ) → d.names name ≡ Some file → In had (name, file)
 
 -- What is held of an operation is what the summary says of it: the same was given, if not as often, and the tries are counted up to 63. The file that
 -- its entry had after its last item is remembered.
@@ -42,8 +38,40 @@ pub record Holds (had : List (Name × ℕ)) (d : Disk) (x : OpenOperation) (o : 
   pub remembered : IsRemembered d x
   pub was_entry : WasEntry had x.entry
   pub failed : x.failed ≡ o.failed
-  pub row : (file : ℕ) → tries_of x.tries.items file ≡ min 63 (o.row file)
+  pub row : AreTries x.tries.items o.row
   pub held_off : x.held_off ≡ o.held_off
+
+-- what its store gives now is this, or what it gave before
+abbrev pub GivesNow : Disk → OpenOperation → Lately → Type 0
+GivesNow d x AsBefore = IsRemembered d x → list_any (same_blob (given_for d x.request)) x.gave.items ≡ true
+GivesNow d x (Gives given) = given ≡ given_for d x.request
+
+-- it has looked at its entry: what that gives now is known, and its file is remembered
+pub record Looks (d : Disk) (old new : OpenOperation) : Type 0 where
+  pub gave : IsRemembered d old → Learns old.gave.items (given_for d old.request) new.gave.items
+  pub entry : new.entry ≡ entry_of d old.request
+
+-- all else of it is as it was
+pub record KeepsRest (old new : OpenOperation) : Type 0 where
+  pub who : new.who ≡ old.who
+  pub request : new.request ≡ old.request
+  pub failed : new.failed ≡ old.failed
+  pub tries : new.tries ≡ old.tries
+  pub held_off : new.held_off ≡ old.held_off
+
+-- what was asked of it and what was given to it are as they were
+pub record KeepsGiven (old new : OpenOperation) : Type 0 where
+  pub who : new.who ≡ old.who
+  pub request : new.request ≡ old.request
+  pub gave : new.gave ≡ old.gave
+  pub entry : new.entry ≡ old.entry
+
+-- so it is, and no call of it failed meanwhile
+pub record KeepsAllBut (old new : OpenOperation) : Type 0 where
+  pub given : KeepsGiven old new
+  pub failed : new.failed ≡ old.failed
+
+-- ---- all seats
 
 -- the operation that a seat is in, if it is in one
 abbrev pub operation_of : List OpenOperation → Who → Option OpenOperation

@@ -1,5 +1,5 @@
 -- How often in a row a file's lock was found held.
-use Rattle.std.specs.Prelude.{ℕ, nat_eq, List, Option, Some, None}
+use Rattle.std.specs.Prelude.{◌≡◌, ℕ, nat_eq, min, List, Option, Some, None}
 use Rattle.operation_ledger.specs.declared.tries.HeldTries.{HeldTries}
 use Rattle.world_tables.specs.Find.{find_by}
 
@@ -11,3 +11,7 @@ counted (Some held) = held
 -- how often this file's lock was
 abbrev pub tries_of : List HeldTries → ℕ → ℕ
 tries_of tries file = counted (find_by (λ t. nat_eq t.file file) (λ t. t.held) tries)
+
+-- they are the rows of held tries, up to 63
+abbrev pub AreTries : List HeldTries → (ℕ → ℕ) → Type 0
+AreTries tries row = (file : ℕ) → tries_of tries file ≡ min 63 (row file)

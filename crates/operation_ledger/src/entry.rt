@@ -1,6 +1,6 @@
 //! The entry that a get or a put looks at, and what it reads as.
 
-ghost use Rattle.std.specs.Prelude.{◌≡◌, IfOk};
+ghost use Rattle.std.specs.Prelude.{◌≡◌, ◌≢◌, None, IfOk, OnOk};
 ghost use Rattle.file_log.specs.Disk.{bytes_in};
 ghost use Rattle.log_summary.specs.Summary.{read_for};
 ghost use Rattle.operation_ledger.specs.Entries.{entry_by, entry_of as the_entry, read_by};
@@ -51,6 +51,17 @@ pub fn entry_of(tables: &Tables, request: &Request) -> Option<usize>
     }
 }
 
+/// Why a file reads as no blob: the bytes are no item, or memory ran out.
+fn no_blob(refusal: ItemRefusal) -> Result<Option<Bytes>, NoMemory>
+    ensures none { IfOk result (λ blob. blob ≡ None) }
+    ensures memory { OnOk result (refusal ≢ ItemRefusal.NoMemory) }
+{
+    match refusal {
+        ItemRefusal::NoMemory => Err(NoMemory),
+        _ => Ok(None),
+    }
+}
+
 /// The blob that a file reads as for a driver, if it does.
 fn read_file(
     alloc: Global,
@@ -65,8 +76,7 @@ fn read_file(
     };
     match read_blob(alloc, driver, bytes_of(tables, file)) {
         Ok(blob) => Ok(Some(blob)),
-        Err(ItemRefusal::NoMemory) => Err(NoMemory),
-        Err(_) => Ok(None),
+        Err(refusal) => no_blob(refusal),
     }
 }
 

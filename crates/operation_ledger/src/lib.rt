@@ -3,6 +3,8 @@
 #![tactic(auto)]
 
 mod entry;
+mod given;
+mod locks;
 mod name_list;
 mod names_had;
 mod operation;
