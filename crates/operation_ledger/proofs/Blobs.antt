@@ -1,5 +1,6 @@
 -- What a file reads as for a driver, and what an entry gives.
 use Rattle.std.proofs.Common.{◌≡◌, ◌≢◌, ◌⊎◌, inl, inr, ℕ, List, Option, Some, None, Result, Ok, Err, refl, sym, ap, ◌∙◌}
+use Rattle.std.specs.Prelude.{IfOk, OnOk}
 use Rattle.std.specs.Result.{result_err}
 use Rattle.cache_types.specs.Driver.{DriverKeys, blob_of}
 use Rattle.cache_types.specs.declared.key.Key.{Key}
@@ -45,3 +46,8 @@ pub given_by_file : (d : Disk) (request : Request) → given_for d request ≡ r
 given_by_file d (requests.Get store driver key ro) = given_by_entry store.layout d store.root driver key
 given_by_file d (requests.Put store driver key meta blob limit) = given_by_entry store.layout d store.root driver key
 given_by_file d request = refl
+
+-- nothing was read, where memory did not run out
+pub none_then : (E P : Type 0) (r : Result (Option (List ℕ)) E) (x : Option (List ℕ)) → IfOk r (λ b. b ≡ None) → OnOk r P → (P → None ≡ x) → IfOk r (λ b. b ≡ x)
+none_then E P (Ok b) x is memory h = is ∙ h memory
+none_then E P (Err e) x is memory h = tt

@@ -2,3 +2,5 @@ pub mod Names
 pub mod Counting
 pub mod Blobs
 pub mod Learning
+pub mod Listing
+pub mod Going

@@ -5,3 +5,5 @@ pub mod Tries
 pub mod Given
 pub mod Listed
 pub mod Operations
+pub mod Saying
+pub mod Places

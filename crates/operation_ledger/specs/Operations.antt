@@ -1,5 +1,5 @@
 -- The operations that seats are in, as a log's summary says.
-use Rattle.std.specs.Prelude.{◌≡◌, ℕ, Bool, true, List, ◌++◌, min, Option, Some, None}
+use Rattle.std.specs.Prelude.{◌≡◌, ℕ, Bool, true, List, ◌++◌, min, Option, Some, None, if◌then◌else◌}
 use Rattle.std.specs.List.{list_any}
 use Rattle.cache_types.specs.Seats.{same_seat}
 use Rattle.cache_types.specs.declared.name.Name.{Name}
@@ -8,7 +8,7 @@ use Rattle.file_log.specs.Disk.{Disk, bytes_in}
 use Rattle.file_log.specs.Effect.{applied}
 use Rattle.file_log.specs.declared.item.LogItem.{LogItem}
 use Rattle.folder_rules.specs.Kinds.{is_entry}
-use Rattle.log_summary.specs.Summary.{Operation, Summary, gained, given_for}
+use Rattle.log_summary.specs.Summary.{Operation, Summary, gained, given_for, goes_on_if}
 use Rattle.operation_ledger.specs.Entries.{entry_of, read_by}
 use Rattle.operation_ledger.specs.Given.{Learns}
 use Rattle.operation_ledger.specs.Had.{IsNamesHad}
@@ -87,6 +87,10 @@ IsOperation had d x o = ⊥
 pub record AreOperations (operations : Operations) (s : Summary) : Type 0 where
   pub inside : (who : Who) → IsOperation s.had s.state.disk (operation_of operations.held.items who) (s.inside who)
   pub listed : AreListed s.had s.state.disk
+
+-- the seat's operation goes on over the item, and the others' are as they were
+abbrev pub GoesOn : Who → List OpenOperation → List OpenOperation → Summary → LogItem → Type 0
+GoesOn who old new s item = (w : Who) → IsOperation (s.had ++ gained s.state.disk item) (applied s.state.disk item) (operation_of new w) (if same_seat w who then goes_on_if s.had s.state.disk item (s.inside w) else s.inside w)
 
 -- the names and the tables are as they are after the item, at which files that entries have or had keep their bytes
 pub record IsAfter (names : NamesHad) (tables : Tables) (s : Summary) (item : LogItem) : Type 0 where

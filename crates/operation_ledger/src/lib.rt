@@ -2,6 +2,7 @@
 //! operations that seats are in. It tells of each item whether what it says was earned.
 #![tactic(auto)]
 
+mod earned;
 mod entry;
 mod given;
 mod locks;

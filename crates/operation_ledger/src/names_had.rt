@@ -98,11 +98,13 @@ impl NamesHad {
             name: name.copy()?,
         };
         add(self.alloc, &mut self.files, count, main)?;
-        if add(self.alloc, &mut self.files, next, index).is_err() {
-            take_back(&mut self.files, count);
-            return Err(NoMemory);
+        match add(self.alloc, &mut self.files, next, index) {
+            Ok(()) => Ok(()),
+            Err(refusal) => {
+                take_back(&mut self.files, count);
+                Err(refusal)
+            }
         }
-        Ok(())
     }
 
     /// Goes on over a call that was answered Done.
