@@ -125,6 +125,17 @@ impl NamesHad {
         }
     }
 
+    /// Goes on over a call with its reply: only one that was answered Done gives names.
+    fn follow_reply(&mut self, tables: &Tables, call: &Call, reply: &Reply) -> Result<(), NoMemory>
+        ensures ok { OnOk result (Gains self.old self.new (gained_by (disk_at tables.now) call.now reply.now)) }
+        ensures err { OnErr result (HaveSame self.old.files.items self.new.files.items) }
+    {
+        match reply {
+            Reply::Done => self.follow_call(tables, call),
+            _ => Ok(()),
+        }
+    }
+
     /// Goes on over a list of read-only databases that is set or taken away.
     fn follow_list(&mut self, tables: &Tables, text: &Option<Bytes>) -> Result<(), NoMemory>
         ensures ok { OnOk result (Gains self.old self.new (gained_list (disk_at tables.now) text.now)) }
@@ -145,8 +156,8 @@ impl NamesHad {
             LogItem::Did {
                 who: _,
                 call,
-                reply: Reply::Done,
-            } => self.follow_call(tables, call),
+                reply,
+            } => self.follow_reply(tables, call, reply),
             LogItem::Install {
                 root,
                 name,
