@@ -191,6 +191,11 @@ IsOther (items.Begin who request) = ⊥
 IsOther (items.End who answer) = ⊥
 IsOther item = Unit {0}
 
+pub other_than : (item : LogItem) → ((who : Who) (request : Request) → item ≡ items.Begin who request → ⊥) → ((who : Who) (answer : Answer) → item ≡ items.End who answer → ⊥) → IsOther item
+other_than (items.Begin who request) h k = absurd (h who request refl)
+other_than (items.End who answer) h k = absurd (k who answer refl)
+other_than item h k = tt
+
 other_goes_on : (had : List (Name × ℕ)) (d : Disk) (item : LogItem) (o : Option Operation) → IsOther item → operation_after had d item o ≡ goes_on_if had d item o
 other_goes_on had d (items.Begin who request) o other = absurd other
 other_goes_on had d (items.End who answer) o other = absurd other
