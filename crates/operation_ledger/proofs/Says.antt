@@ -1,24 +1,20 @@
 -- What answers say, of an operation as it is held.
 use Rattle.std.proofs.Common.{◌≡◌, ℕ, Bool, true, false, ◌&&◌, ◌||◌, List, ◌∷◌, Option, Some, None, is_some, is_none, refl, sym, ap, ap₂, ◌∙◌, subst}
 use Rattle.std.specs.List.{list_any}
-use Rattle.std.specs.Borrow.{Bor}
 use Rattle.cache_types.specs.declared.answer.Answer.{Answer}
 use Rattle.cache_types.specs.declared.answer.Answer.TheVariants as answers
 use Rattle.cache_types.specs.declared.name.Name.{Name}
 use Rattle.cache_types.specs.declared.request.Request.{Request}
 use Rattle.cache_types.specs.declared.request.Request.TheVariants as requests
-use Rattle.cache_types.specs.declared.seat.Who.{Who}
 use Rattle.file_log.specs.Disk.{Disk}
-use Rattle.file_log.specs.declared.item.LogItem.{LogItem}
-use Rattle.folder_rules.specs.Answers.{may_end, may_evict}
-use Rattle.log_summary.specs.Summary.{Operation, Summary, given_for}
-use Rattle.rule_checks.specs.Tests.{same_blob, says_true, ends_well, evicts_well}
+use Rattle.folder_rules.specs.Answers.{may_end}
+use Rattle.log_summary.specs.Summary.{Operation, given_for}
+use Rattle.rule_checks.specs.Tests.{same_blob, says_true, ends_well}
 use Rattle.operation_ledger.specs.declared.given.Lately.{Lately}
 use Rattle.operation_ledger.specs.declared.given.Lately.TheVariants.{AsBefore, Gives}
 use Rattle.operation_ledger.specs.declared.operation.OpenOperation.{OpenOperation}
-use Rattle.operation_ledger.specs.declared.operations.Operations.{Operations}
 use Rattle.operation_ledger.specs.Given.{with_lately}
-use Rattle.operation_ledger.specs.Operations.{Holds, GivesNow, IsOperation, AreOperations, operation_of}
+use Rattle.operation_ledger.specs.Operations.{Holds, GivesNow, IsOperation}
 use Rattle.operation_ledger.specs.Saying.{told_of}
 use Rattle.operation_ledger.proofs.Learning.{known_already}
 

@@ -1,5 +1,5 @@
 -- The operations of all seats, as they begin, go on and end.
-use Rattle.std.proofs.Common.{◌≡◌, ◌≤◌, ◌<◌, ◌+◌, ℕ, zero, suc, Bool, true, false, cond, not, nat_eq, ◌&&◌, List, [], ◌∷◌, ◌++◌, length, get_or, set, Option, Some, None, Result, Ok, Err, refl, sym, ap, ◌∙◌, subst, filter, append-nil, is_none, arith}
+use Rattle.std.proofs.Common.{◌≡◌, ◌≤◌, ◌<◌, ℕ, suc, Bool, true, false, cond, not, List, [], ◌∷◌, ◌++◌, length, get_or, set, Option, Some, None, Result, Ok, Err, refl, sym, ap, ◌∙◌, subst, filter, append-nil, arith}
 use Rattle.std.specs.Prelude.{OnOk, OnErr, IfOk}
 use Rattle.std.proofs.lemmas.Bool.{false≢true}
 use Rattle.cache_types.specs.Seats.{same_seat}
@@ -12,20 +12,15 @@ use Rattle.file_log.specs.Effect.{applied}
 use Rattle.file_log.specs.Log.{seat_of, is_seat, is_own}
 use Rattle.file_log.specs.declared.item.LogItem.{LogItem}
 use Rattle.file_log.specs.declared.item.LogItem.TheVariants as items
-use Rattle.file_log.proofs.All.{seat_self}
 use Rattle.folder_rules.specs.Kinds.{is_entry}
 use Rattle.log_summary.specs.Summary.{Operation, Summary, summed, begun, gained, goes_on, goes_on_if, operation_after}
 use Rattle.log_summary.proofs.Seats.{same_seat_decides}
 use Rattle.rule_checks.specs.Tests.{keep_bytes}
 use Rattle.rule_checks.proofs.Deciding.{keep_decides}
-use Rattle.world_tables.specs.Tables.{disk_at}
-use Rattle.world_tables.specs.declared.tables.Tables.{Tables}
-use Rattle.world_tables.specs.Find.{find_by}
 use Rattle.world_tables.proofs.Finds.{dropped_if}
 use Rattle.operation_ledger.specs.Listed.{AreListed}
-use Rattle.operation_ledger.specs.Operations.{Holds, operation_of, IsOperation, AreOperations, GoesOn, IsAfter}
+use Rattle.operation_ledger.specs.Operations.{Holds, operation_of, IsOperation, AreOperations, GoesOn}
 use Rattle.operation_ledger.specs.Places.{place_in}
-use Rattle.operation_ledger.specs.declared.names_had.NamesHad.{NamesHad}
 use Rattle.operation_ledger.specs.declared.operation.OpenOperation.{OpenOperation}
 use Rattle.operation_ledger.specs.declared.operations.Operations.{Operations}
 use Rattle.operation_ledger.proofs.Going.{holds_still}

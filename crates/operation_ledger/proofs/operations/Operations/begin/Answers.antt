@@ -1,4 +1,4 @@
-use Rattle.std.proofs.Common.{◌≡◌, ◌∙◌, ap, cond, List, None}
+use Rattle.std.proofs.Common.{◌∙◌, ap, cond, List, None}
 use Rattle.cache_types.specs.Seats.{same_seat}
 use Rattle.world_tables.specs.Tables.{disk_at}
 use Rattle.operation_ledger.specs.Operations.{operation_of}

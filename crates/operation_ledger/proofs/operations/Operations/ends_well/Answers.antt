@@ -1,4 +1,4 @@
-use Rattle.std.proofs.Common.{◌≡◌, ◌∙◌, ap, ap₂, sym, subst, List, Option}
+use Rattle.std.proofs.Common.{◌∙◌, ap, ap₂, sym, subst, List, Option}
 use Rattle.file_log.specs.Disk.{Disk}
 use Rattle.log_summary.specs.Summary.{Operation}
 use Rattle.rule_checks.specs.Tests.{ends_well}

@@ -1,4 +1,4 @@
-use Rattle.std.proofs.Common.{◌≡◌, ◌≤◌, ◌<◌, length, get_or, refl, rules, arith}
+use Rattle.std.proofs.Common.{◌≡◌, ◌≤◌, ◌<◌, length, get_or, refl, rules}
 use Rattle.operation_ledger.specs.Places.{place_in}
 use Rattle.operation_ledger.proofs.Seating.{on_err, held_at, goes_at, goes_none}
 use Rattle.operation_ledger.proofs.operations.Operations.go_on.Goals as goal
