@@ -41,7 +41,8 @@ fn add(alloc: Global, files: &mut Vec<NameList>, file: usize, name: Name) -> Res
 
 /// Takes the last name of a file away again.
 fn take_back(files: &mut Vec<NameList>, file: usize)
-    ensures { (names : ℕ → List Name) (name : Name) → ((f : ℕ) → names_at files.old.items f ≡ (if nat_eq file f then names f ++ name ∷ [] else names f)) → (f : ℕ) → names_at files.new.items f ≡ names f }
+    ensures { (names : ℕ → List Name) (name : Name) → ((f : ℕ) → names_at files.old.items f ≡ (if nat_eq file f then names f ++ name ∷ [] else names f))
+        → (f : ℕ) → names_at files.new.items f ≡ names f }
 {
     if file < files.len() {
         files[file].pop();

@@ -19,6 +19,7 @@ const STORE: Store = Store {
 const KEY: Key = Key { bytes: [7; 20] };
 
 /// The names and the operations of a log, with the tables after it.
+#[derive(Drop)]
 struct Past {
     tables: Tables,
     names: NamesHad,
@@ -89,10 +90,11 @@ fn a_renamed_file_has_had_two_names(rt: HostRuntime) -> Result<(), Fail> {
         reply: Reply::Done,
     };
     follow(rt.alloc(), &mut past, &renamed)?;
-    let names = past.names.names_of(1);
-    assert_eq!(rt; names.len(), 2);
-    assert!(rt; names[0].is(&Name::Db { root: 0 }));
-    assert!(rt; names[1].is(&Name::Idx { root: 0 }));
+    let [first, second] = past.names.names_of(1) else {
+        return Err("the file has had two names".into());
+    };
+    assert!(rt; first.is(&Name::Db { root: 0 }));
+    assert!(rt; second.is(&Name::Idx { root: 0 }));
     assert_eq!(rt; past.names.names_of(5).len(), 0);
     Ok(())
 }
