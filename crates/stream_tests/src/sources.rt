@@ -35,6 +35,7 @@ impl Source for Zeros {
 }
 
 /// How a put ended, whether there is an entry, and whether anything was done.
+#[derive(Clone, Copy)]
 struct Ended {
     status: Status,
     is_there: bool,
