@@ -61,7 +61,7 @@ pub const NEXT: Who = Who {
 
 /// Files in memory with this entry of a key below the first root, and nothing done. The seat `ME` calls them.
 pub fn files_with(alloc: Global, key: Key, entry: Bytes) -> Result<MemFiles, NoMemory>
-    ensures history { IfOk result (λ f. ⟦<MemFiles as Files>⟧.history f ≡ Some (record { start = (Entry 0 key, entry.items) ∷ []; log = [] })) }
+    ensures history { IfOk result (λ f. ⟦<MemFiles as Files>⟧.history f ≡ Some (record { start = (Entry 0 key, entry) ∷ []; log = [] })) }
     ensures idle { IfOk result (λ f. IsIdle (⟦<MemFiles as Files>⟧.seen f)) }
 {
     let mut files = Vec::new(alloc);
