@@ -22,9 +22,12 @@ use Rattle.file_log.specs.Operation.{IsOperation, IsStill, is_fault}
 use Rattle.file_log.specs.State.{after, state_of, disk_of}
 use Rattle.file_log.specs.Told.{Grows, Rose}
 use Rattle.item_frame.specs.Item.{ReadsAs}
-use Rattle.folder_store.specs.Entries.{folder_of, with_item, EntriesAreWhole, IsWholeAfter, ReplacesTold, OthersSpare}
+use Rattle.folder_rules.specs.Changes.{with_item}
+use Rattle.folder_rules.specs.Holds.{FolderHolds, address, IsHeld}
+use Rattle.folder_rules.specs.Rules.{EntriesStayWhole}
+use Rattle.folder_rules.specs.Whole.{folder_of, EntriesAreWhole}
+use Rattle.folder_store.specs.Entries.{ReplacesTold, OthersSpare}
 use Rattle.folder_store.specs.declared.put_phase.TheConstants.{LOCK_TRIES}
-use Rattle.folder_store.specs.Holds.{FolderHolds}
 use Rattle.folder_store.specs.Keeping.{KeepsRulesAmong}
 use Rattle.folder_store.specs.Locking.{lock_name, IsUnlocked, HeldInRow, lock_replies, ChangesUnderLock, OwnMakesLockAlone}
 use Rattle.folder_store.specs.PutPhases.{most_put_calls}
@@ -52,15 +55,11 @@ blob_in request = []
 
 -- ---- what it leaves
 
--- the store holds some blob
-abbrev pub IsHeld : Disk → ℕ → DriverKeys → Key → Type 0
-IsHeld d root driver key = (blob : List ℕ) × FolderHolds d root driver key blob
-
 -- Stored: the store held none and now holds the put's own, and no temporary name is left. Kept: it held one, and nothing changed.
 -- It isn't Busy. After a failure, or for want of memory, the entry is as it was.
 abbrev pub Leaves : ℕ → DriverKeys → Key → List ℕ → Answer → Disk → Disk → Type 0
-Leaves root driver key blob Stored old new = (IsHeld old root driver key → ⊥) × FolderHolds new root driver key blob × (new.names (Temp root key) ≡ None)
-Leaves root driver key blob Kept old new = IsHeld old root driver key × IsStill old new
+Leaves root driver key blob Stored old new = (IsHeld old (address (folder_of root) driver key) → ⊥) × FolderHolds new root driver key blob × (new.names (Temp root key) ≡ None)
+Leaves root driver key blob Kept old new = IsHeld old (address (folder_of root) driver key) × IsStill old new
 Leaves root driver key blob Busy old new = ⊥
 Leaves root driver key blob answer old new = file_of new (Entry root key) ≡ file_of old (Entry root key)
 
@@ -130,7 +129,7 @@ pub record Puts (me : Who) (request : Request) (root : ℕ) (driver : DriverKeys
   -- what it does where all new items are its own, and at first no other seat holds the lock of the key's folder
   pub alone : own me news ≡ news → IsUnlocked me root key (disk_of h) → PutsAlone me root driver key blob answer (disk_of h) (disk_of (with_items h news)) (own me news)
   -- where others leave the key's entry and its temporary file alone, it is not the first whose item leaves an entry that isn't whole
-  pub whole : All with_item (OthersSpare me root key) h news → EntriesAreWhole h → Keeps with_item IsWholeAfter me h news
+  pub whole : All with_item (OthersSpare me root key) h news → EntriesAreWhole h → Keeps with_item EntriesStayWhole me h news
   -- and it replaces no entry of a driver before it told that this goes
   pub tells_first : All with_item (OthersSpare me root key) h news → Keeps with_item ReplacesTold me h news
   -- it changes names and files under the lock of the key's folder alone, as long as no other seat takes the lock file its name
