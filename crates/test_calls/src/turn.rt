@@ -1,19 +1,16 @@
-//! Calls of the program over files in memory: what each is asked for and given, and how it has to end.
-
+ghost use Rattle.std.specs.Prelude.{◌≡◌};
 ghost use Rattle.file_log.specs.Seat.{IsIdle};
 
-use crate::entries::{put_words, words_for};
-use cache_main::run;
-use cache_types::{Bytes, NoMemory};
+use crate::call::Call;
+use cache_types::NoMemory;
 use files_api::Files;
-use memory_files::{MemSink, MemSource};
 use report_text::Status;
 use std::alloc::Global;
 
-/// A call of the program.
+/// A put or a lookup in the folder store `store`, for GPU `g`.
 #[derive(Clone, Copy)]
 pub struct Turn<'a> {
-    is_put: bool,
+    word: &'a str,
     id: &'a str,
     key: &'a str,
     input: &'a [u8],
@@ -21,10 +18,10 @@ pub struct Turn<'a> {
     printed: &'a [u8],
 }
 
-/// A put that ends well.
+/// A put that ends well. `id` is the option for the driver, as `--id=d`.
 pub fn put<'a>(id: &'a str, key: &'a str, input: &'a [u8], printed: &'a [u8]) -> Turn<'a> {
     Turn {
-        is_put: true,
+        word: "put",
         id,
         key,
         input,
@@ -36,7 +33,7 @@ pub fn put<'a>(id: &'a str, key: &'a str, input: &'a [u8], printed: &'a [u8]) ->
 /// A lookup that hits.
 pub fn hit<'a>(id: &'a str, key: &'a str, printed: &'a [u8]) -> Turn<'a> {
     Turn {
-        is_put: false,
+        word: "get",
         id,
         key,
         input: &[],
@@ -47,14 +44,7 @@ pub fn hit<'a>(id: &'a str, key: &'a str, printed: &'a [u8]) -> Turn<'a> {
 
 /// A lookup that misses.
 pub fn miss<'a>(id: &'a str, key: &'a str) -> Turn<'a> {
-    Turn {
-        is_put: false,
-        id,
-        key,
-        input: &[],
-        status: Status::Miss,
-        printed: &[],
-    }
+    hit(id, key, &[]).fails(Status::Miss)
 }
 
 impl Turn<'_> {
@@ -67,23 +57,23 @@ impl Turn<'_> {
         }
     }
 
-    fn words(&self, alloc: Global) -> Result<Vec<String>, NoMemory> {
-        if self.is_put {
-            put_words(alloc, self.id, "--root=store", self.key)
-        } else {
-            words_for(alloc, self.id, "--root=store", self.key)
-        }
-    }
-
     /// Makes the call, and whether it ended as it has to.
     pub fn take<F: Files>(&self, alloc: Global, files: &mut F) -> Result<bool, NoMemory>
         requires { IsIdle (F.seen files.old) }
-        ensures { IsIdle (F.seen files.new) }
+        ensures idle { IsIdle (F.seen files.new) }
+        ensures me { F.me files.new ≡ F.me files.old }
     {
-        let words = self.words(alloc)?;
-        let mut source = MemSource::new(Bytes::of(alloc, self.input)?, Vec::new(alloc));
-        let mut out = MemSink::new(alloc, Vec::new(alloc));
-        let status = run(alloc, &words, &[], files, &mut source, &mut out);
-        Ok(status == self.status && out.bytes() == self.printed)
+        let words = [
+            self.word,
+            self.id,
+            "--gpu=g",
+            "--layout=folder",
+            "--root=store",
+            self.key,
+        ];
+        Call::ends(&words, self.status)
+            .on(self.input)
+            .prints(self.printed)
+            .take(alloc, files)
     }
 }

@@ -1,10 +1,11 @@
-use crate::entries::{ABC, K1, K1_TEXT, files_with, words_for};
 use cache_main::run;
-use cache_types::Bytes;
+use cache_types::{Bytes, NoMemory};
 use files_api::{Sink, Took};
 use memory_files::{MemSink, MemSource};
 use report_text::Status;
+use std::alloc::Global;
 use std::test::Fail;
+use test_calls::{ABC, K1, K1_TEXT, files_with, words_of};
 
 /// A sink that takes one byte at a time.
 #[derive(Drop)]
@@ -25,25 +26,36 @@ impl Sink for SlowSink {
     }
 }
 
+/// How a lookup of `abc` ends that prints into a sink.
+fn print_into(alloc: Global, out: &mut SlowSink) -> Result<Status, NoMemory> {
+    let texts = [
+        "get",
+        "--id=d",
+        "--gpu=g",
+        "--layout=folder",
+        "--root=store",
+        K1_TEXT,
+    ];
+    let words = words_of(alloc, &texts)?;
+    let mut files = files_with(alloc, K1, Bytes::of(alloc, &ABC)?)?;
+    let mut source = MemSource::new(Bytes::new(alloc), Vec::new(alloc));
+    Ok(run(alloc, &words, &[], &mut files, &mut source, out))
+}
+
 /// A slow sink gets all bytes in their order, and one that fails at its second call the first of them.
 #[test]
 fn a_slow_sink_gets_all_bytes(rt: HostRuntime) -> Result<(), Fail> {
     let alloc = rt.alloc();
-    let words = words_for(alloc, "--id=d", "--root=store", K1_TEXT)?;
     let rows: [(u64, Status, &[u8]); 3] = [
         (9, Status::Ok, b"abc"),
         (1, Status::WriteFault, b"a"),
         (0, Status::WriteFault, b""),
     ];
     for (failing, wanted, printed) in rows {
-        let mut faults = Vec::new(alloc);
-        faults.push(failing)?;
-        let mut files = files_with(alloc, K1, Bytes::of(alloc, &ABC)?)?;
-        let mut source = MemSource::new(Bytes::new(alloc), Vec::new(alloc));
         let mut out = SlowSink {
-            inner: MemSink::new(alloc, faults),
+            inner: MemSink::new(alloc, vec![in alloc; failing]?),
         };
-        let status = run(alloc, &words, &[], &mut files, &mut source, &mut out);
+        let status = print_into(alloc, &mut out)?;
         assert_eq!(rt; status, wanted);
         assert_eq!(rt; out.inner.bytes(), printed);
     }

@@ -1,10 +1,8 @@
-use crate::entries::{K1, K1_TEXT, files_with, words_for};
-use cache_main::run;
 use cache_types::{Bytes, MAX_BLOB, MAX_ITEM, NoMemory};
-use memory_files::{Fault, MemSink, MemSource};
-use report_text::Status;
+use memory_files::Fault;
 use std::alloc::Global;
 use std::test::Fail;
+use test_calls::{K1, K1_TEXT, files_with, hit, miss};
 
 /// An entry of driver `d`, GPU `g`, flags 0 whose blob is so many zero bytes, with this CRC-32 and size,
 /// lowest bytes first.
@@ -21,24 +19,24 @@ fn zeros(alloc: Global, sum: [u8; 4], size: [u8; 4], len: usize) -> Result<Bytes
 #[test]
 fn the_largest_blob_is_found(rt: HostRuntime) -> Result<(), Fail> {
     let alloc = rt.alloc();
-    let words = words_for(alloc, "--id=d", "--root=store", K1_TEXT)?;
+    let blob: Vec<u8> = vec![in alloc; 0; MAX_BLOB]?;
     let rows = [
-        ([0x4a, 0xa1, 0x7c, 0xa4], [0, 0, 0, 1], MAX_BLOB, Status::Ok),
+        (
+            [0x4a, 0xa1, 0x7c, 0xa4],
+            [0, 0, 0, 1],
+            MAX_BLOB,
+            hit("--id=d", K1_TEXT, &blob),
+        ),
         (
             [0xa2, 0x3b, 0xaf, 0x44],
             [1, 0, 0, 1],
             MAX_BLOB + 1,
-            Status::Miss,
+            miss("--id=d", K1_TEXT),
         ),
     ];
-    for (sum, size, len, wanted) in rows {
+    for (sum, size, len, turn) in rows {
         let mut files = files_with(alloc, K1, zeros(alloc, sum, size, len)?)?;
-        let mut source = MemSource::new(Bytes::new(alloc), Vec::new(alloc));
-        let mut out = MemSink::new(alloc, Vec::new(alloc));
-        let status = run(alloc, &words, &[], &mut files, &mut source, &mut out);
-        assert_eq!(rt; status, wanted);
-        let printed = if wanted == Status::Ok { len } else { 0 };
-        assert_eq!(rt; out.bytes().len(), printed);
+        assert!(rt; turn.take(alloc, &mut files)?, "{len} bytes");
     }
     Ok(())
 }
@@ -47,19 +45,14 @@ fn the_largest_blob_is_found(rt: HostRuntime) -> Result<(), Fail> {
 #[test]
 fn a_longer_file_is_not_read(rt: HostRuntime) -> Result<(), Fail> {
     let alloc = rt.alloc();
-    let words = words_for(alloc, "--id=d", "--root=store", K1_TEXT)?;
     let rest = MAX_ITEM as usize - 25;
     let mut files = files_with(alloc, K1, zeros(alloc, [0; 4], [0; 4], rest)?)?;
-    let mut plan = Vec::new(alloc);
-    plan.push(Fault {
+    let reading = Fault {
         call: 3,
         after: 0,
         memory: false,
-    })?;
-    files.fail_at(plan);
-    let mut source = MemSource::new(Bytes::new(alloc), Vec::new(alloc));
-    let mut out = MemSink::new(alloc, Vec::new(alloc));
-    let status = run(alloc, &words, &[], &mut files, &mut source, &mut out);
-    assert_eq!(rt; status, Status::Miss);
+    };
+    files.fail_at(vec![in alloc; reading]?);
+    assert!(rt; miss("--id=d", K1_TEXT).take(alloc, &mut files)?);
     Ok(())
 }

@@ -1,8 +1,8 @@
-use crate::entries::ME;
 use cache_types::Name;
 use file_log::{Call, Reply};
 use file_model::{Fate, Progress, World};
 use std::test::Fail;
+use test_calls::ME;
 
 /// The clock's number is told, a process is stopped, and the log has both.
 #[test]

@@ -1,8 +1,8 @@
-use crate::entries::K2;
 use cache_types::{Driver, Key, KeyList, Meta, NoMemory};
 use item_frame::{ItemError, read_item, write_item};
 use std::alloc::Global;
 use std::test::Fail;
+use test_calls::K2;
 
 /// So many times the same key.
 fn keys(alloc: Global, count: usize) -> Result<Meta, NoMemory> {

@@ -1,27 +1,13 @@
-use crate::entries::{K1_TEXT, ME};
-use crate::turns::{hit, miss, put};
-use cache_types::NoMemory;
-use memory_files::{Fault, MemFiles};
+use crate::plans::failing;
+use memory_files::MemFiles;
 use report_text::Status;
-use std::alloc::Global;
 use std::test::Fail;
-
-/// Files whose call of this number fails after so many bytes.
-fn failing(alloc: Global, call: u64, after: u64, memory: bool) -> Result<Vec<Fault>, NoMemory> {
-    let mut plan = Vec::new(alloc);
-    plan.push(Fault {
-        call,
-        after,
-        memory,
-    })?;
-    Ok(plan)
-}
+use test_calls::{K1_TEXT, ME, hit, miss, put};
 
 /// A put's calls that can fail are its Begin, the first opening of the entry, the opening of the lock file and
 /// its lock, the second opening of the entry, the opening of the temporary file, its cut, its write and the
-/// renaming, with the numbers 0 to 8. The Begin fails for memory alone, so
-/// another fault stands for the first opening. A put that failed leaves no entry, and the same put is then
-/// stored.
+/// renaming, with the numbers 0 to 8. The Begin fails for memory alone, so another fault stands for the first
+/// opening. A put that failed leaves no entry, and the same put is then stored.
 #[test]
 fn each_call_of_a_put_that_fails_is_told(rt: HostRuntime) -> Result<(), Fail> {
     let alloc = rt.alloc();

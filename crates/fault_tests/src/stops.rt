@@ -1,14 +1,7 @@
-use crate::entries::{K1, K1_TEXT, ME};
-use crate::turns::{hit, miss, put};
-use cache_types::{Name, Who};
+use cache_types::Name;
 use memory_files::MemFiles;
 use std::test::Fail;
-
-/// A seat of another process.
-const NEXT: Who = Who {
-    process: 1,
-    seat: 0,
-};
+use test_calls::{K1, K1_TEXT, ME, NEXT, hit, miss, put};
 
 /// The put of `abc` is stopped after each of its items. A lookup by another process then hits or misses, and
 /// the same put is stored where it missed and kept where it hit.

@@ -1,7 +1,7 @@
-use crate::entries::{ABC, ABC_OF_E};
 use cache_types::Driver;
 use item_frame::{ItemRefusal, check_item};
 use std::test::Fail;
+use test_calls::{ABC, ABC_OF_E};
 
 /// The bytes of `abc` with some of them changed.
 fn changed(changes: &[(usize, u8)]) -> [u8; 29] {

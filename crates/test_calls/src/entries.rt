@@ -1,6 +1,5 @@
-//! Entries byte by byte, and files and words for lookups of them.
-
-ghost use Rattle.std.specs.Prelude.{◌≡◌, IfOk};
+ghost use Rattle.std.specs.Prelude.{◌≡◌, ◌∷◌, [], Some, IfOk};
+ghost use Rattle.cache_types.specs.declared.name.Name.TheVariants.{Entry};
 ghost use Rattle.file_log.specs.Seat.{IsIdle};
 
 use cache_types::{Bytes, Key, Name, NoMemory, Who};
@@ -17,6 +16,7 @@ pub const K1: Key = Key {
     ],
 };
 
+/// The key of the SHA-1 of `abc`.
 pub const K1_TEXT: &str = "a9993e364706816aba3e25717850c26c9cd0d89d";
 
 /// The key that `K2_TEXT` spells.
@@ -27,6 +27,7 @@ pub const K2: Key = Key {
     ],
 };
 
+/// The key of the SHA-1 of no bytes.
 pub const K2_TEXT: &str = "da39a3ee5e6b4b0d3255bfef95601890afd80709";
 
 /// The blob `abc` of driver `d`, GPU `g`, flags 0. Its CRC-32 is 0x352441c2.
@@ -46,38 +47,25 @@ pub const ABC_OF_E: [u8; 29] = [
     b'a', b'b', b'c',
 ];
 
+/// The seat of most tests.
 pub const ME: Who = Who {
     process: 0,
     seat: 0,
 };
 
-/// Files in memory with this entry of a key.
+/// A seat of another process.
+pub const NEXT: Who = Who {
+    process: 1,
+    seat: 0,
+};
+
+/// Files in memory with this entry of a key below the first root, and nothing done. The seat `ME` calls them.
 pub fn files_with(alloc: Global, key: Key, entry: Bytes) -> Result<MemFiles, NoMemory>
-    ensures { IfOk result (λ f. IsIdle (⟦<MemFiles as Files>⟧.seen f)) }
+    ensures history { IfOk result (λ f. ⟦<MemFiles as Files>⟧.history f ≡ Some (record { start = (Entry 0 key, entry) ∷ []; log = [] })) }
+    ensures idle { IfOk result (λ f. IsIdle (⟦<MemFiles as Files>⟧.seen f)) }
 {
     let mut files = Vec::new(alloc);
     files.push((Name::Entry { root: 0, key }, entry))?;
     let world = World::on_disk(alloc, files)?;
     MemFiles::on(alloc, ME, world)
-}
-
-/// The words `get`, this word for the id, and what follows for a key in the root `store`.
-pub fn words_for(alloc: Global, id: &str, root: &str, key: &str) -> Result<Vec<String>, NoMemory> {
-    let texts = ["get", id, "--gpu=g", "--layout=folder", root, key];
-    words_of(alloc, &texts)
-}
-
-/// The same words with `put`.
-pub fn put_words(alloc: Global, id: &str, root: &str, key: &str) -> Result<Vec<String>, NoMemory> {
-    let texts = ["put", id, "--gpu=g", "--layout=folder", root, key];
-    words_of(alloc, &texts)
-}
-
-/// These words.
-fn words_of(alloc: Global, texts: &[&str]) -> Result<Vec<String>, NoMemory> {
-    let mut words = Vec::new(alloc);
-    for text in texts {
-        words.push(String::from_str(alloc, text)?)?;
-    }
-    Ok(words)
 }

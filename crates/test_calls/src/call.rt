@@ -1,24 +1,14 @@
-//! Calls of the program over files in memory.
-
+ghost use Rattle.std.specs.Prelude.{◌≡◌};
 ghost use Rattle.file_log.specs.Seat.{IsIdle};
 
+use crate::entries::ME;
+use crate::words::{vars_of, words_of};
 use cache_main::run;
-use cache_types::{Bytes, NoMemory, Who};
+use cache_types::{Bytes, NoMemory};
 use files_api::Files;
 use memory_files::{MemFiles, MemSink, MemSource};
 use report_text::Status;
 use std::alloc::Global;
-
-pub const ME: Who = Who {
-    process: 0,
-    seat: 0,
-};
-
-/// The key of the SHA-1 of `abc`.
-pub const K1: &str = "a9993e364706816aba3e25717850c26c9cd0d89d";
-
-/// The key of the SHA-1 of no bytes.
-pub const K2: &str = "da39a3ee5e6b4b0d3255bfef95601890afd80709";
 
 /// The words and variables of a call, what its source has, and how it has to end.
 #[derive(Clone, Copy)]
@@ -60,7 +50,8 @@ impl<'a> Call<'a> {
     /// Makes the call, and whether it ended as it has to.
     pub fn take<F: Files>(&self, alloc: Global, files: &mut F) -> Result<bool, NoMemory>
         requires { IsIdle (F.seen files.old) }
-        ensures { IsIdle (F.seen files.new) }
+        ensures idle { IsIdle (F.seen files.new) }
+        ensures me { F.me files.new ≡ F.me files.old }
     {
         let words = words_of(alloc, self.words)?;
         let vars = vars_of(alloc, self.vars)?;
@@ -75,25 +66,4 @@ impl<'a> Call<'a> {
         let mut files = MemFiles::new(alloc, ME)?;
         self.take(alloc, &mut files)
     }
-}
-
-/// These words.
-pub fn words_of(alloc: Global, texts: &[&str]) -> Result<Vec<String>, NoMemory> {
-    let mut words = Vec::new(alloc);
-    for text in texts {
-        words.push(String::from_str(alloc, text)?)?;
-    }
-    Ok(words)
-}
-
-/// These variables.
-pub fn vars_of(alloc: Global, pairs: &[(&str, &str)]) -> Result<Vec<(String, String)>, NoMemory> {
-    let mut vars = Vec::new(alloc);
-    for (name, value) in pairs {
-        vars.push((
-            String::from_str(alloc, name)?,
-            String::from_str(alloc, value)?,
-        ))?;
-    }
-    Ok(vars)
 }
