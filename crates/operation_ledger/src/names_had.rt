@@ -6,11 +6,10 @@ ghost use Rattle.log_summary.specs.Summary.{gained, gained_by, gained_list};
 ghost use Rattle.operation_ledger.specs.NameLists.{names_at, HaveSame};
 
 use crate::name_list::NameList;
-use crate::tables::number_of;
 use cache_types::{Bytes, Name, NoMemory, Text};
 use file_log::{Call, LogItem, Reply};
 use std::alloc::Global;
-use world_tables::Tables;
+use world_tables::{Tables, number_of};
 
 /// The names that each file has had, by the file's number.
 #[derive(Debug, Drop)]

@@ -14,12 +14,11 @@ use crate::entry::{entry_of, read_entry};
 use crate::given::{Lately, learn};
 use crate::locks::{is_lock_file, root_of};
 use crate::names_had::NamesHad;
-use crate::tables::file_in;
 use crate::tries::{HeldTries, TRIES_BEFORE, count_try, tries_of};
 use cache_types::{Bytes, NoMemory, Request, Who};
 use file_log::{Call, LogItem, Reply};
 use std::alloc::Global;
-use world_tables::Tables;
+use world_tables::{Tables, file_in};
 
 /// An operation that a seat is in.
 #[derive(Debug, Drop)]
