@@ -26,8 +26,8 @@ use Rattle.folder_store.proofs.Calls.{done_is, not_ask}
 use Rattle.folder_store.proofs.Keeping.{IsIdleIn, order_of, no_calls_keep, unmade_keeps}
 use Rattle.folder_store.proofs.Operations.{Grows-map, Grows-from}
 use Rattle.folder_store.proofs.Still.{all_as_own, looking_stays, nothing_stays}
-use Rattle.op_union.specs.declared.given.Given.{Given}
-use Rattle.op_union.specs.Given.{given_step, asks, asked, Fed}
+use Rattle.op_machine.specs.declared.given.Given.{Given}
+use Rattle.op_machine.specs.Given.{given_step, given_asks, given_asked, GivenFed}
 use Rattle.op_union.specs.Requests.{AsksLarge, RefusedLarge}
 
 -- ---- an answer that is given makes no call
@@ -36,7 +36,7 @@ never_asks : {P : Type 0} (answer : Option Answer) (call : Call) → given_step 
 never_asks None call e = not_ask call NoMemory e
 never_asks (Some answer) call e = not_ask call answer e
 
-no_call : (me : Who) (m last : Given) (xs : List Exchange) (a given : Answer) → m.answer ≡ Some a → Runs asks asked Fed me m xs given last → (given ≡ a) × (items_of_all xs ≡ [])
+no_call : (me : Who) (m last : Given) (xs : List Exchange) (a given : Answer) → m.answer ≡ Some a → Runs given_asks given_asked GivenFed me m xs given last → (given ≡ a) × (items_of_all xs ≡ [])
 no_call me m last [] a given e runs = (sym (done_is a given (ap given_step (sym e) ∙ runs.0)), refl)
 no_call me m last (x ∷ xs) a given e runs = never_asks m.answer x.call runs.0
 
@@ -81,7 +81,7 @@ module _ (me : Who) (request : Request) (n : ℕ) (old new : Option History) (be
   ended given e (inl is) = inl (is ∙ e)
   ended given e (inr lack) = inr lack.0
 
-  operated : (IsMade : Given → Type 0) → ((m : Given) → IsMade m → m ≡ record { answer = Some (TooLarge n) }) → Operated asks asked Fed (λ m. 0) IsMade me request old new before now answer → IsRefused
+  operated : (IsMade : Given → Type 0) → ((m : Given) → IsMade m → m ≡ record { answer = Some (TooLarge n) }) → Operated given_asks given_asked GivenFed (λ m. 0) IsMade me request old new before now answer → IsRefused
   operated IsMade is_new r =
       let none = no_call me r.first r.last r.exchanges (TooLarge n) r.given (ap (λ (m : Given). m.answer) (is_new r.first r.made)) r.runs in
       let ends = ended r.given none.0 r.answer_is in
@@ -90,13 +90,13 @@ module _ (me : Who) (request : Request) (n : ℕ) (old new : Option History) (be
         told = Grows-from old new _ _ r.told (λ h news is_old o. let whole = o.owns.own_items ∙ ap (λ (made : List LogItem). Begin me request ∷ (made ++ End me answer ∷ [])) none.1 in record {
           operation = inr whole;
           keeps = λ kept. no_calls_keep me request answer h news (end_earned me request n answer large ends) whole o.owns.legal o.owns.goes_on (record { order = order_of h kept; idle = idle h is_old });
-          still = looking_stays asks asked Fed me (λ m call e. never_asks m.answer call e) r.first request answer news (state_of h) r.exchanges r.given r.last r.runs r.answer_is o.owns.own_items o.owns.legal o.owns.goes_on;
+          still = looking_stays given_asks given_asked GivenFed me (λ m call e. never_asks m.answer call e) r.first request answer news (state_of h) r.exchanges r.given r.last r.runs r.answer_is o.owns.own_items o.owns.legal o.owns.goes_on;
         });
       }
 
   -- However it ended, it changed nothing.
   pub refused_large : (IsMade : Given → Type 0) → ((m : Given) → IsMade m → m ≡ record { answer = Some (TooLarge n) })
-      → Refused me old new answer ⊎ (Unmade me request old new answer ⊎ Operated asks asked Fed (λ m. 0) IsMade me request old new before now answer) → IsRefused
+      → Refused me old new answer ⊎ (Unmade me request old new answer ⊎ Operated given_asks given_asked GivenFed (λ m. 0) IsMade me request old new before now answer) → IsRefused
   refused_large IsMade is_new (inl r) = refused r
   refused_large IsMade is_new (inr (inl r)) = unmade r
   refused_large IsMade is_new (inr (inr r)) = operated IsMade is_new r

@@ -1,13 +1,12 @@
 -- Which requests are served, and what a seat keeps between them.
-use Rattle.std.specs.Prelude.{◌≡◌, ◌≤◌, ◌<◌, ◌⊎◌, ℕ, false, List, [], ◌∷◌, length, Option, Some, None}
+use Rattle.std.specs.Prelude.{◌≡◌, ◌≤◌, ◌<◌, ◌⊎◌, ℕ, List, [], ◌∷◌, length, Option, Some, None}
 use Rattle.cache_types.specs.declared.answer.Answer.{Answer}
 use Rattle.cache_types.specs.declared.answer.Answer.TheVariants.{TooLarge, NoMemory}
 use Rattle.cache_types.specs.declared.key.Key.{Key}
-use Rattle.cache_types.specs.declared.limits.TheConstants.{MAX_BLOB, MAX_KEYS}
+use Rattle.cache_types.specs.declared.limits.TheConstants.{MAX_BLOB}
 use Rattle.cache_types.specs.declared.request.Request.{Request}
 use Rattle.cache_types.specs.declared.request.Request.TheVariants as requests
 use Rattle.cache_types.specs.declared.seat.Who.{Who}
-use Rattle.cache_types.specs.declared.store.Layout.TheVariants.{Folder}
 use Rattle.cache_types.specs.declared.store.Store.{Store}
 use Rattle.cache_types.specs.Driver.{DriverKeys}
 use Rattle.file_log.specs.declared.item.LogItem.{LogItem}
@@ -20,14 +19,7 @@ use Rattle.file_log.specs.Told.{Grows}
 use Rattle.folder_store.specs.Keeping.{KeepsRulesAmong}
 use Rattle.folder_store.specs.Lookup.{LookedUp}
 use Rattle.folder_store.specs.Put.{PutDone}
-use Rattle.item_frame.specs.Writing.{key_count}
-
--- The one condition on requests whose layout or operation isn't built yet: lookups in folder stores that ask no read-only
--- database are, and puts into folder stores. A put has at most 64 keys.
-abbrev pub IsBuilt : Request → Type 0
-IsBuilt (requests.Get store driver key ro) = (store.layout ≡ Folder) × (ro.names ≡ []) × (ro.list ≡ false)
-IsBuilt (requests.Put store driver key meta blob limit) = (store.layout ≡ Folder) × (key_count meta ≤ MAX_KEYS)
-IsBuilt request = ⊥
+pub use Rattle.op_machine.specs.Requests.{IsBuilt}
 
 abbrev pub IsPut : Request → Type 0
 IsPut (requests.Put store driver key meta blob limit) = Unit {0}

@@ -2,9 +2,9 @@ ghost use Rattle.std.specs.Prelude.{◌≡◌, ◌≤◌};
 ghost use Rattle.file_log.specs.Seat.{IsIdle};
 ghost use Rattle.op_union.specs.Requests.{AsksLarge, RefusedLarge};
 
-use crate::given::Given;
 use cache_types::{Answer, Request};
 use files_api::{Files, operate};
+use op_machine::Given;
 use std::alloc::Global;
 
 /// Refuses a put of a blob of so many bytes, which are too many: an operation without a call.

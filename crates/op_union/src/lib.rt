@@ -2,7 +2,6 @@
 #![tactic(auto)]
 
 mod get;
-mod given;
 mod large;
 mod operation;
 mod put;
