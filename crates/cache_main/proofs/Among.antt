@@ -1,5 +1,5 @@
 -- A call of the program among seats that keep the rules.
-use Rattle.std.proofs.Common.{◌≡◌, ◌⊎◌, inl, inr, ℕ, List, Option, Some, None, refl, sym, ap, ◌∙◌, subst}
+use Rattle.std.proofs.Common.{◌≡◌, ◌⊎◌, inl, inr, ℕ, List, Option, Some, refl, sym, ◌∙◌, subst}
 use Rattle.cache_types.specs.Driver.{DriverKeys}
 use Rattle.cache_types.specs.declared.answer.Answer.{Answer}
 use Rattle.cache_types.specs.declared.answer.Answer.TheVariants as answers
@@ -31,7 +31,7 @@ use Rattle.cache_main.specs.Cooperating.{WasMissing}
 use Rattle.cache_main.specs.Ends.{Ends}
 use Rattle.cache_main.specs.Printing.{IsWritten}
 use Rattle.cache_main.specs.Requests.{request_for, request_of}
-use Rattle.cache_main.specs.Served.{ServedBy, OperationServed}
+use Rattle.cache_main.specs.Served.{ServedBy}
 use Rattle.cache_main.specs.Top.{IsRefused, IsUnread, AsksNoFiles}
 use Rattle.cache_main.specs.Words.{IsOperation}
 
