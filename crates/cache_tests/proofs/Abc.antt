@@ -22,8 +22,9 @@ use Rattle.file_log.specs.declared.item.LogItem.{LogItem}
 use Rattle.file_log.specs.Log.{History, with_items, own}
 use Rattle.file_log.specs.State.{disk_of}
 use Rattle.file_log.specs.Told.{Grows, Rose}
-use Rattle.folder_store.specs.Entries.{folder_of}
-use Rattle.folder_store.specs.Holds.{FolderHolds, FindsOrFails}
+use Rattle.folder_rules.specs.Holds.{FolderHolds}
+use Rattle.folder_rules.specs.Whole.{folder_of}
+use Rattle.folder_store.specs.Finds.{FindsOrFails}
 use Rattle.folder_store.specs.Lookup.{LooksUp, LookedUp}
 use Rattle.memory_files.specs.Lone.{IsLone}
 use Rattle.op_union.specs.Requests.{Operates}
