@@ -1,4 +1,4 @@
-use Rattle.std.proofs.Common.{◌∙◌, ap, ◌×◌, Bor, map, List, ℕ}
+use Rattle.std.proofs.Common.{◌∙◌, ap, Bor, map, List, ℕ}
 use Rattle.std.proofs.lemmas.List.{take_all}
 use Rattle.test_calls.proofs.words.vars_of.Goals as goal
 
