@@ -1,6 +1,6 @@
 -- The rules as tests of an item by what it does to names and files: each looks at the disk before the item, at one or two names and at the names
 -- that one file has had.
-use Rattle.std.specs.Prelude.{ℕ, nat_eq, Bool, true, false, not, ◌&&◌, ◌||◌, List, [], ◌∷◌, take, Option, Some, None, is_some, is_none}
+use Rattle.std.specs.Prelude.{ℕ, nat_eq, Bool, true, not, ◌&&◌, ◌||◌, List, [], ◌∷◌, take, Option, Some, None, is_some, is_none}
 use Rattle.std.specs.List.{list_all, list_any}
 use Rattle.std.specs.Cmp.Lexicographic.{pointwise}
 use Rattle.cache_types.specs.Names.{same_name}

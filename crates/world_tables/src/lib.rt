@@ -15,8 +15,10 @@ mod room;
 mod tables;
 
 pub use book::{Book, len_of_piece};
+pub use find::{file_in, number_of};
 pub use locks::LockHolder;
 pub use parts::{NamedFile, OpenSlot};
 pub use piece::{Piece, Run};
+pub use replies::bytes_in;
 pub use room::{answer_in_room, install_in_room, list_in_room};
 pub use tables::Tables;

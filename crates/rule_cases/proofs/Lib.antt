@@ -1,0 +1,14 @@
+pub mod Everywhere
+pub mod Fields
+pub mod Items
+pub mod Keeping
+pub mod Leaving
+pub mod Losing
+pub mod Making
+pub mod Moving
+pub mod Place
+pub mod Removing
+pub mod Renaming
+pub mod SmallLogs
+pub mod Still
+pub mod Writing
