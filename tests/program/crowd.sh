@@ -25,43 +25,52 @@ is_put() {
     return 1
 }
 
-# One call of a worker. Every third is killed after some milliseconds, if it hasn't ended.
+# One call of a worker. By a random byte about every third is killed within some thirteen milliseconds, if it hasn't ended.
 call() {
-    if [ $((turn % 3)) -eq 0 ]; then
-        timeout -s KILL "0.00$((turn % 7 + 1))" "$program" "$@"
+    byte=$(od -A n -N 1 -t u1 /dev/urandom)
+    if [ $((byte % 3)) -eq 0 ]; then
+        timeout -s KILL "$(printf '0.%04d' $((byte / 2 + 1)))" "$program" "$@"
     else
         "$program" "$@"
     fi
 }
 
+# The status of a call that was killed.
+killed=137
+
 work() {
-    driver=$(driver_of "$1") turn=0
+    driver=$(driver_of "$1") turn=0 kills=0
     while [ $turn -lt $turns ]; do
         turn=$((turn + 1))
         # shellcheck disable=SC2086
         key=$(echo $keys | cut -d ' ' -f $(((turn + $1) % 4 + 1)))
         call put --id=$driver --gpu=g --layout=folder --root=shared "$key" <"blobs/$key/$driver/$1" >"out.$1" 2>"err.$1"
         status=$?
-        [ $status -le 7 ] || [ $status -eq 137 ] || wrong "worker $1, turn $turn: a put ended with status $status"
+        [ $status -ne $killed ] || kills=$((kills + 1))
+        [ $status -le 7 ] || [ $status -eq $killed ] || wrong "worker $1, turn $turn: a put ended with status $status"
         call get --id=$driver --gpu=g --layout=folder --root=shared "$key" </dev/null >"out.$1" 2>"err.$1"
         status=$?
         case $status in
         0) is_put "out.$1" "$key" $driver || wrong "worker $1, turn $turn: a lookup gave bytes that nobody put" ;;
-        1 | 137) ;;
+        1) ;;
+        "$killed") kills=$((kills + 1)) ;;
         *) wrong "worker $1, turn $turn: a lookup ended with status $status" ;;
         esac
     done
-    echo done >"done.$1"
+    echo $kills >"kills.$1"
 }
 
 for worker in 0 1 2 3 4 5 6 7; do
     work $worker &
 done
 wait
+all=0
 for worker in 0 1 2 3 4 5 6 7; do
-    [ -e done.$worker ] || wrong "worker $worker stopped before its end"
+    [ -e kills.$worker ] || wrong "worker $worker stopped before its end"
+    all=$((all + $(cat kills.$worker)))
     cases=$((cases + 1))
 done
+[ $all -gt 0 ] || wrong "no call was killed, so that nothing was tried"
 for key in $keys; do
     try put --id=d --gpu=g --layout=folder --root=shared "$key" <"blobs/$key/d/0"
     [ "$status" -eq 0 ] || wrong "the last put of $key: status $status"

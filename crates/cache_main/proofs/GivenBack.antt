@@ -18,7 +18,8 @@ use Rattle.file_log.specs.State.{State, first, after, state_of, disk_of}
 use Rattle.file_log.specs.Told.{Grows, Rose}
 use Rattle.files_api.specs.Streams.{IsAdded}
 use Rattle.item_frame.proofs.Laws.{reads_one}
-use Rattle.folder_store.specs.Holds.{FileReads, FolderHolds, FindsOrFails}
+use Rattle.folder_rules.specs.Holds.{FileReads, FolderHolds}
+use Rattle.folder_store.specs.Finds.{FindsOrFails}
 use Rattle.folder_store.specs.Lookup.{IsLookupAnswer, LooksUp, LookedUp}
 use Rattle.folder_store.specs.Put.{IsPutAnswer, Leaves, PutDone}
 use Rattle.folder_store.proofs.Unlocked.{lone_unlocked}

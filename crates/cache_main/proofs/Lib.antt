@@ -14,3 +14,4 @@ pub mod GoodWords
 pub mod Puts
 pub mod Pairs
 pub mod TakenBlobs
+pub mod Among

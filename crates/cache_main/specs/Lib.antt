@@ -8,5 +8,6 @@ pub mod Printing
 pub mod Served
 pub mod Top
 pub mod Ends
+pub mod Cooperating
 pub mod Paths
 pub mod RoundTrip

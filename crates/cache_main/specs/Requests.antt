@@ -9,7 +9,7 @@ use Rattle.cmd_words.specs.declared.command.Command.{Command}
 use Rattle.cmd_words.specs.declared.word.Word.{Word}
 use Rattle.cmd_words.specs.declared.word.Word.TheVariants as commands
 use Rattle.cmd_words.specs.Asked.{driver_asked}
-use Rattle.folder_store.specs.Entries.{folder_of}
+use Rattle.folder_rules.specs.Whole.{folder_of}
 use Rattle.settings_read.specs.declared.cache_settings.CacheSettings.{CacheSettings}
 use Rattle.cache_main.specs.declared.reading.ReadRefusal.{ReadRefusal}
 use Rattle.cache_main.specs.Reading.{IsWholeBlob, ReadsToEnd}

@@ -12,7 +12,7 @@ use Rattle.file_log.specs.Log.{History, own}
 use Rattle.file_log.specs.State.{disk_of}
 use Rattle.file_log.specs.Told.{Rose}
 use Rattle.files_api.specs.Streams.{IsAdded}
-use Rattle.folder_store.specs.Holds.{FolderHolds}
+use Rattle.folder_rules.specs.Holds.{FolderHolds}
 use Rattle.report_text.specs.declared.status.Status.{Status}
 use Rattle.report_text.specs.declared.status.Status.TheVariants as statuses
 use Rattle.settings_read.specs.Overridden.{root_of}

@@ -1,7 +1,9 @@
 ghost use Rattle.std.specs.Prelude.{◌≡◌, ◌≤◌, ◌+◌, ◌⊎◌, ℕ, Some, IsTrue, map, string_bytes};
 ghost use Rattle.cache_types.specs.declared.limits.TheConstants.{MAX_BLOB};
 ghost use Rattle.file_log.specs.Seat.{IsIdle};
-ghost use Rattle.file_log.specs.Told.{Rose};
+ghost use Rattle.file_log.specs.Told.{Grows, Rose};
+ghost use Rattle.op_union.specs.Cooperating.{KeepsOwn};
+ghost use Rattle.cache_main.specs.Cooperating.{MissesTruly};
 ghost use Rattle.cache_main.specs.Ends.{Ends};
 ghost use Rattle.cache_main.specs.Keys.{HasBadKey};
 ghost use Rattle.cache_main.specs.Reading.{TakesAtMost};
@@ -93,6 +95,10 @@ pub fn run<F: Files, S: Source, K: Sink>(
     // Every other call does what its command is there for; or there was no memory to begin it.
     ensures served { IsRefused result ⊎ IsUnread result ⊎ ((result ≡ Status.NoMemory) × (files.new ≡ files.old) × (out.new ≡ out.old))
         ⊎ Served (asked (map string_bytes words.now)) (texts_of vars.now) (F.me files.old) result (F.history files.old) (F.history files.new) (F.faults files.old) (F.faults files.new) (S.left source.old) (S.left source.new) (K.written out.old) (K.written out.new) (K.faults out.old) (K.faults out.new) }
+
+    // Own handles keep the rules among seats, whatever others do between their calls, and as long as none breaks one a miss is true.
+    ensures keeps { Grows (F.history files.old) (F.history files.new) (KeepsOwn (F.me files.old)) }
+    ensures misses { MissesTruly (asked (map string_bytes words.now)) (F.me files.old) result (F.history files.old) (F.history files.new) }
 
     // A fault has its cause, and no count of faults falls.
     ensures files_fault { result ≡ Status.FilesFault → Rose (F.faults files.old) (F.faults files.new) }

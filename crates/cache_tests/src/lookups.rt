@@ -1,46 +1,10 @@
-use crate::entries::{ABC, ABC_OF_E, EMPTY, K1, K1_TEXT, K2, K2_TEXT, files_with, words_for};
 use crate::premises::abc_is_found;
-use cache_main::run;
-use cache_types::{Bytes, Key};
-use memory_files::{MemSink, MemSource};
+use cache_types::Bytes;
 use report_text::Status;
 use std::test::Fail;
+use test_calls::{ABC, ABC_OF_E, EMPTY, K1, K1_TEXT, K2, K2_TEXT, files_with, hit, miss};
 
-/// What lies, under which key, for which id it is asked by which digits, and how that ends.
-#[derive(Clone, Copy)]
-struct Row<'a> {
-    key: Key,
-    entry: &'a [u8],
-    id: &'a str,
-    text: &'a str,
-    status: Status,
-    printed: &'a [u8],
-}
-
-/// A row whose lookup is a hit.
-fn hit<'a>(key: Key, entry: &'a [u8], id: &'a str, text: &'a str, printed: &'a [u8]) -> Row<'a> {
-    Row {
-        key,
-        entry,
-        id,
-        text,
-        status: Status::Ok,
-        printed,
-    }
-}
-
-/// A row whose lookup is a miss.
-fn miss<'a>(key: Key, entry: &'a [u8], id: &'a str, text: &'a str) -> Row<'a> {
-    Row {
-        key,
-        entry,
-        id,
-        text,
-        status: Status::Miss,
-        printed: b"",
-    }
-}
-
+/// What lies under which key, which lookup is made, and how that ends.
 #[test]
 fn what_lies_is_found_for_its_driver_alone(rt: HostRuntime) -> Result<(), Fail> {
     let alloc = rt.alloc();
@@ -48,25 +12,20 @@ fn what_lies_is_found_for_its_driver_alone(rt: HostRuntime) -> Result<(), Fail> 
     let mut other_byte = ABC;
     other_byte[28] = b'b';
     let rows = [
-        hit(K1, &ABC, "--id=d", K1_TEXT, b"abc"),
-        hit(K1, &ABC, "--id=d", upper, b"abc"),
-        hit(K2, &EMPTY, "--id=d", K2_TEXT, b""),
-        hit(K1, &ABC_OF_E, "--id=e", K1_TEXT, b"abc"),
-        miss(K2, &EMPTY, "--id=d", K1_TEXT),
-        miss(K1, &ABC, "--id=e", K1_TEXT),
-        miss(K1, &ABC_OF_E, "--id=d", K1_TEXT),
-        miss(K1, &ABC[..28], "--id=d", K1_TEXT),
-        miss(K1, &other_byte, "--id=d", K1_TEXT),
-        miss(K1, &[], "--id=d", K1_TEXT),
+        (K1, &ABC[..], hit("--id=d", K1_TEXT, b"abc")),
+        (K1, &ABC[..], hit("--id=d", upper, b"abc")),
+        (K2, &EMPTY[..], hit("--id=d", K2_TEXT, b"")),
+        (K1, &ABC_OF_E[..], hit("--id=e", K1_TEXT, b"abc")),
+        (K2, &EMPTY[..], miss("--id=d", K1_TEXT)),
+        (K1, &ABC[..], miss("--id=e", K1_TEXT)),
+        (K1, &ABC_OF_E[..], miss("--id=d", K1_TEXT)),
+        (K1, &ABC[..28], miss("--id=d", K1_TEXT)),
+        (K1, &other_byte[..], miss("--id=d", K1_TEXT)),
+        (K1, &[][..], miss("--id=d", K1_TEXT)),
     ];
-    for row in &rows {
-        let words = words_for(alloc, row.id, "--root=store", row.text)?;
-        let mut files = files_with(alloc, row.key, Bytes::of(alloc, row.entry)?)?;
-        let mut source = MemSource::new(Bytes::new(alloc), Vec::new(alloc));
-        let mut out = MemSink::new(alloc, Vec::new(alloc));
-        let status = run(alloc, &words, &[], &mut files, &mut source, &mut out);
-        assert_eq!(rt; status, row.status, "{} {}", row.id, row.text);
-        assert_eq!(rt; out.bytes(), row.printed);
+    for (row, (key, entry, turn)) in rows.iter().enumerate() {
+        let mut files = files_with(alloc, *key, Bytes::of(alloc, entry)?)?;
+        assert!(rt; turn.take(alloc, &mut files)?, "row {row}");
     }
     Ok(())
 }

@@ -1,12 +1,11 @@
-use crate::entries::{ABC, EMPTY, K1, K1_TEXT, K2, K2_TEXT, ME};
 use crate::round_trip::abc_is_put_and_found;
-use crate::turns::{hit, miss, put};
 use cache_main::RoundTrip;
 use cache_types::{Driver, Name};
 use file_log::LogItem;
 use memory_files::MemFiles;
 use report_text::Status;
 use std::test::Fail;
+use test_calls::{ABC, EMPTY, K1, K1_TEXT, K2, K2_TEXT, ME, hit, miss, put};
 
 /// The blob `xyz` of driver `e`. Its CRC-32 is 0xeb8eba67.
 const XYZ_OF_E: [u8; 29] = [

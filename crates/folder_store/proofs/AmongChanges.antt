@@ -1,8 +1,8 @@
 -- The calls of a put that tell an eviction, make, cut and rename the temporary file, and close files, among seats that keep the rules.
 use Rattle.std.specs.List.{Contains}
-use Rattle.std.proofs.Common.{◌≡◌, inl, inr, ℕ, Bool, true, false, List, [], ◌∷◌, ◌++◌, take, Option, Some, None, refl, sym, ap, ◌∙◌, subst, append_assoc}
+use Rattle.std.proofs.Common.{◌≡◌, inl, inr, ℕ, Bool, true, false, List, [], ◌∷◌, ◌++◌, take, Option, Some, None, IsSomeAnd, refl, sym, ap, ◌∙◌, subst, append_assoc}
 use Rattle.std.proofs.lemmas.List.Elements.{Contains-append_left, Contains-push}
-use Rattle.cache_types.specs.Driver.{DriverKeys}
+use Rattle.cache_types.specs.Driver.{DriverKeys, Fronts}
 use Rattle.cache_types.specs.declared.answer.Answer.{Answer}
 use Rattle.cache_types.specs.declared.answer.Answer.TheVariants as answers
 use Rattle.cache_types.specs.declared.name.Name.{Name}
@@ -68,8 +68,9 @@ module _ (t : Task) where
       let opened = (meets h evict t.me (asked_for t) (within_inner t.me evict refl)).opens (address (folder_of t.root) driver t.key) refl in
       let same : file_of (disk_of h') entry_name ≡ Some k.2.0 = ap (λ (d : Disk). file_of d entry_name) (disk_then h evict) ∙ k.2.1 in
       let replacing : IsReplacing h'.log t.me t.root t.key (Some k.2.0) = inr (driver, k.2.2, opened) in
+      let front : IsSomeAnd (file_of (disk_of h) entry_name) (λ bytes'. Fronts bytes' driver) = subst (λ (o : Option (List ℕ)). IsSomeAnd o (λ bytes'. Fronts bytes' driver)) (sym k.2.1) k.2.2 in
       let going : Going t h' = record { holds = holds_own t h evict refl (λ f. refl) k.1; replacing = subst (IsReplacing h'.log t.me t.root t.key) (sym same) replacing } in
-      still_step t (Evicting driver) bytes replies.Done h evict i refl (asked_for t, i.inside, refl) (record { names = λ name. refl; files = λ f. refl }) (into t (Making true) bytes h' (k.0, going)))
+      still_step t (Evicting driver) bytes replies.Done h evict i refl (asked_for t, i.inside, refl) (refl, refl, front) (record { names = λ name. refl; files = λ f. refl }) (into t (Making true) bytes h' (k.0, going)))
   evicting driver bytes replies.NoMemory h x left i k a ms = let clash : x ∷ left ≡ [] = ms.1 in absurd cc
   evicting driver bytes reply h x left i k a ms = absurd a
 
@@ -90,6 +91,7 @@ module _ (t : Task) where
         rules = own_rules h did t.me refl (making_keeps h did t.me temp_name i.order tt (record { names = λ name. refl; files = λ f. refl }) refl refl (inl (may_temp h k.1.holds)));
         within = within;
         last = refl;
+        evicts = tt;
         follows = into t (Cutting also) bytes h' (k.0, going, (has.0, written));
       })
   making also bytes replies.Failed h x left i k a ms = split _ x left ms.1 (Steps t (Making also) bytes replies.Failed h) (fails t false (Making also) bytes replies.Failed h i (failed_now t h i) (λ h' e. into t (closing answers.FilesFault also Lock) bytes h' (closing_knows t answers.FilesFault also Lock bytes h' e)))
@@ -125,7 +127,7 @@ module _ (t : Task) where
   cutting also bytes replies.Done h x left i k a ms = split _ x left ms (Steps t (Cutting also) bytes replies.Done h) (λ legal.
       let did : LogItem = Did t.me (calls.Cut 3 0) replies.Done in
       let c : Changed h did [] = changed h did k.2.0 (take 0) i refl refl tt refl k.1 k.2.1 in
-      record { rules = c.rules; within = within_inner t.me did refl; last = refl; follows = into t (Writing also) bytes (with_item h did) (k.0, c.going, c.written) })
+      record { rules = c.rules; within = within_inner t.me did refl; last = refl; evicts = tt; follows = into t (Writing also) bytes (with_item h did) (k.0, c.going, c.written) })
   cutting also bytes replies.Failed h x left i k a ms = split _ x left ms.1 (Steps t (Cutting also) bytes replies.Failed h) (fails t false (Cutting also) bytes replies.Failed h i (failed_now t h i) (λ h' e. into t (closing answers.FilesFault also LockAndTemp) bytes h' (closing_knows t answers.FilesFault also LockAndTemp bytes h' e)))
   cutting also bytes replies.NoMemory h x left i k a ms = split _ x left ms.1 (Steps t (Cutting also) bytes replies.NoMemory h) (fails t true (Cutting also) bytes replies.NoMemory h i tt (λ h' e. into t (closing answers.NoMemory also LockAndTemp) bytes h' (closing_knows t answers.NoMemory also LockAndTemp bytes h' e)))
   cutting also bytes reply h x left i k a ms = absurd a
@@ -151,6 +153,7 @@ module _ (t : Task) where
         rules = own_rules h did t.me refl (installing_keeps h t.me t.root t.key k.1.file i.order k.1.named k.0.holds item (replacing_evicts h t.me t.root t.key k.0.replacing));
         within = within;
         last = refl;
+        evicts = tt;
         follows = into t (closing answers.Stored also LockAndTemp) bytes (with_item h did) (closing_knows t answers.Stored also LockAndTemp bytes (with_item h did) stored);
       })
   renaming reads also bytes replies.Failed h x left i k a ms = split _ x left ms.1 (Steps t (Renaming also) bytes replies.Failed h) (fails t false (Renaming also) bytes replies.Failed h i (failed_now t h i) (λ h' e. into t (closing answers.FilesFault also LockAndTemp) bytes h' (closing_knows t answers.FilesFault also LockAndTemp bytes h' e)))
@@ -163,17 +166,17 @@ module _ (t : Task) where
   closing_entry answer besides bytes replies.Done h x left i k a ms = split _ x left ms (Steps t (ClosingEntry answer besides) bytes replies.Done h) (λ legal.
       let did : LogItem = Did t.me (calls.Close 1) replies.Done in
       let told = told_then t answer h did (within_inner t.me did refl) k in
-      still_step t (ClosingEntry answer besides) bytes replies.Done h did i refl tt (record { names = λ name. refl; files = λ f. refl }) (into t (closing answer false besides) bytes (with_item h did) (closing_knows t answer false besides bytes (with_item h did) told)))
+      still_step t (ClosingEntry answer besides) bytes replies.Done h did i refl tt tt (record { names = λ name. refl; files = λ f. refl }) (into t (closing answer false besides) bytes (with_item h did) (closing_knows t answer false besides bytes (with_item h did) told)))
   closing_entry answer besides bytes reply h x left i k a ms = absurd a
 
   pub closing_temp : (answer : Answer) (bytes : List ℕ) (reply : Reply) (h : History) (x : LogItem) (left : List LogItem) → In t h → KnowsAt t (ClosingTemp answer) bytes h → AnswersIn (asks_at t (ClosingTemp answer) bytes) reply → MakesIn t (asks_at t (ClosingTemp answer) bytes) reply (x ∷ left) → Steps t (ClosingTemp answer) bytes reply h x left
   closing_temp answer bytes replies.Done h x left i k a ms = split _ x left ms (Steps t (ClosingTemp answer) bytes replies.Done h) (λ legal.
       let did : LogItem = Did t.me (calls.Close 3) replies.Done in
-      still_step t (ClosingTemp answer) bytes replies.Done h did i refl tt (record { names = λ name. refl; files = λ f. refl }) (into t (ClosingLock answer) bytes (with_item h did) (told_then t answer h did (within_inner t.me did refl) k)))
+      still_step t (ClosingTemp answer) bytes replies.Done h did i refl tt tt (record { names = λ name. refl; files = λ f. refl }) (into t (ClosingLock answer) bytes (with_item h did) (told_then t answer h did (within_inner t.me did refl) k)))
   closing_temp answer bytes reply h x left i k a ms = absurd a
 
   pub closing_lock : (answer : Answer) (bytes : List ℕ) (reply : Reply) (h : History) (x : LogItem) (left : List LogItem) → In t h → KnowsAt t (ClosingLock answer) bytes h → AnswersIn (asks_at t (ClosingLock answer) bytes) reply → MakesIn t (asks_at t (ClosingLock answer) bytes) reply (x ∷ left) → Steps t (ClosingLock answer) bytes reply h x left
   closing_lock answer bytes replies.Done h x left i k a ms = split _ x left ms (Steps t (ClosingLock answer) bytes replies.Done h) (λ legal.
       let did : LogItem = Did t.me (calls.Close 0) replies.Done in
-      still_step t (ClosingLock answer) bytes replies.Done h did i refl tt (record { names = λ name. refl; files = λ f. refl }) (into t (Ended answer) bytes (with_item h did) (told_then t answer h did (within_inner t.me did refl) k)))
+      still_step t (ClosingLock answer) bytes replies.Done h did i refl tt tt (record { names = λ name. refl; files = λ f. refl }) (into t (Ended answer) bytes (with_item h did) (told_then t answer h did (within_inner t.me did refl) k)))
   closing_lock answer bytes reply h x left i k a ms = absurd a

@@ -8,7 +8,7 @@ use Rattle.file_log.specs.declared.item.LogItem.{LogItem}
 use Rattle.file_log.specs.declared.item.LogItem.TheVariants.{Did, Begin}
 use Rattle.file_log.specs.declared.reply.Reply.{Reply}
 use Rattle.file_log.specs.declared.reply.Reply.TheVariants as replies
-use Rattle.file_log.specs.Disk.{Disk, made, made_at, locked}
+use Rattle.file_log.specs.Disk.{Disk, made, made_at}
 use Rattle.file_log.specs.Log.{History}
 use Rattle.file_log.specs.State.{state_of, disk_of}
 use Rattle.folder_rules.specs.Changes.{with_item}
@@ -25,7 +25,6 @@ use Rattle.folder_changes.proofs.Keeping.{making_keeps}
 use Rattle.folder_store.specs.declared.put_phase.Look.TheVariants.{Second}
 use Rattle.folder_store.specs.declared.put_phase.PutPhase.TheVariants.{Opening, OpeningLock, Locking, Pausing, ClosingLock, Ended}
 use Rattle.folder_store.specs.declared.put_phase.TheConstants.{LOCK_TRIES}
-use Rattle.folder_store.specs.Locking.{HoldsLock}
 use Rattle.folder_store.specs.PutPhases.{held}
 use Rattle.folder_store.proofs.AmongKnown.{Task, asked_for, lock, In, Holds, Tries, KnowsAt}
 use Rattle.folder_store.proofs.AmongSteps.{own_rules, asks_at, MakesIn, Steps, into, still_step, failed_now, fails}
@@ -73,6 +72,7 @@ module _ (t : Task) where
         rules = own_rules h did t.me refl (making_keeps h did t.me (lock t) i.order tt (record { names = λ name. refl; files = λ f. refl }) refl refl (inr refl));
         within = within;
         last = refl;
+        evicts = tt;
         follows = into t (Locking (LOCK_TRIES - 1)) bytes h' (k, tries_own (LOCK_TRIES - 1) h did m.0 0 named slot refl none);
       })
   opening_lock bytes replies.Failed h x left i k a ms = split _ x left ms.1 (Steps t OpeningLock bytes replies.Failed h) (fails t false OpeningLock bytes replies.Failed h i (failed_now t h i) (λ h' e. into t (Ended answers.FilesFault) bytes h' e))
@@ -81,19 +81,16 @@ module _ (t : Task) where
 
   -- ---- it is tried
 
-  holds_of : (d : Disk) → HoldsLock t.me t.root t.key d → HasFolder d t.me t.root (folder_byte t.key)
-  holds_of d o = record { file = o.file; slot = o.slot; named = o.named; taken = o.taken }
-
   pub locking : (again : ℕ) (bytes : List ℕ) (reply : Reply) (h : History) (x : LogItem) (left : List LogItem) → In t h → KnowsAt t (Locking again) bytes h → AnswersIn (asks_at t (Locking again) bytes) reply → MakesIn t (asks_at t (Locking again) bytes) reply (x ∷ left) → Steps t (Locking again) bytes reply h x left
   locking again bytes replies.Done h x left i k a ms = split _ x left ms (Steps t (Locking again) bytes replies.Done h) (λ legal.
       let did : LogItem = Did t.me (calls.TryLock 0) replies.Done in
       let h' : History = with_item h did in
       let d : Disk = disk_of h in
-      let taken = holds_of (locked d t.me 0 (d.slots t.me 0)) (trying_holds t.me t.root t.key (state_of h) (record { file = k.1.file; slot = k.1.slot; named = k.1.named }) legal.1.0.1) in
+      let taken = trying_holds t.me t.root t.key (state_of h) (record { file = k.1.file; slot = k.1.slot; named = k.1.named }) legal.1.0.1 in
       let holds : Holds t h' = subst (λ (e : Disk). HasFolder e t.me t.root (folder_byte t.key)) (sym (disk_then h did)) taken in
-      still_step t (Locking again) bytes replies.Done h did i refl tt (locked_still d t.me 0 (d.slots t.me 0)) (into t (Opening Second) bytes h' (k.0, holds)))
+      still_step t (Locking again) bytes replies.Done h did i refl tt tt (locked_still d t.me 0 (d.slots t.me 0)) (into t (Opening Second) bytes h' (k.0, holds)))
   locking again bytes replies.Held h x left i k a ms = split _ x left ms (Steps t (Locking again) bytes replies.Held h) (λ legal.
-      still_step t (Locking again) bytes replies.Held h did i refl tt (record { names = λ name. refl; files = λ f. refl }) (into t (held again) bytes h' (held_knows (nat_eq again 0) refl)))
+      still_step t (Locking again) bytes replies.Held h did i refl tt tt (record { names = λ name. refl; files = λ f. refl }) (into t (held again) bytes h' (held_knows (nat_eq again 0) refl)))
     where
       did : LogItem
       did = Did t.me (calls.TryLock 0) replies.Held
@@ -124,7 +121,7 @@ module _ (t : Task) where
   pausing again bytes replies.Done h x left i k a ms = split _ x left ms (Steps t (Pausing again) bytes replies.Done h) (λ legal.
       let did : LogItem = Did t.me calls.Pause replies.Done in
       let tried = tries_own again h did k.1.file k.1.count (ap (λ (e : Disk). e.names (lock t)) (disk_then h did) ∙ k.1.named) (ap (λ (e : Disk). e.slots t.me 0) (disk_then h did) ∙ k.1.slot) k.1.counted (paused h k.1.file k.1.count k.1.tried) in
-      still_step t (Pausing again) bytes replies.Done h did i refl tt (record { names = λ name. refl; files = λ f. refl }) (into t (Locking again) bytes (with_item h did) (k.0, tried)))
+      still_step t (Pausing again) bytes replies.Done h did i refl tt tt (record { names = λ name. refl; files = λ f. refl }) (into t (Locking again) bytes (with_item h did) (k.0, tried)))
   pausing again bytes replies.Failed h x left i k a ms = split _ x left ms.1 (Steps t (Pausing again) bytes replies.Failed h) (fails t false (Pausing again) bytes replies.Failed h i (failed_now t h i) (λ h' e. into t (ClosingLock answers.FilesFault) bytes h' e))
   pausing again bytes replies.NoMemory h x left i k a ms = split _ x left ms.1 (Steps t (Pausing again) bytes replies.NoMemory h) (fails t true (Pausing again) bytes replies.NoMemory h i tt (λ h' e. into t (ClosingLock answers.NoMemory) bytes h' e))
   pausing again bytes reply h x left i k a ms = absurd a

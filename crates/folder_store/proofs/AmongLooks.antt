@@ -66,15 +66,15 @@ module _ (t : Task) where
       let o : Opens t h' = opened_now t.me (asked_for t) t.root t.key h i.inside legal in
       let named : IsNamed t look h' o = named_first look h' o (named_now t.me (asked_for t) t.root t.key h i.inside legal) in
       let at = at_own look h did (holds_own t h did refl (λ f. refl)) k.1 in
-      still_step t (Opening look) bytes replies.Done h did i refl tt (record { names = λ name. refl; files = λ f. refl }) (into t (Measuring look) bytes h' (k.0, at, (o, named))))
+      still_step t (Opening look) bytes replies.Done h did i refl tt tt (record { names = λ name. refl; files = λ f. refl }) (into t (Measuring look) bytes h' (k.0, at, (o, named))))
   opening First bytes replies.Missing h x left i k a ms = split _ x left ms (Steps t (Opening First) bytes replies.Missing h) (λ legal.
       let did : LogItem = Did t.me (calls.OpenOld 1 entry_name) replies.Missing in
-      still_step t (Opening First) bytes replies.Missing h did i refl tt (record { names = λ name. refl; files = λ f. refl }) (into t OpeningLock bytes (with_item h did) k.0))
+      still_step t (Opening First) bytes replies.Missing h did i refl tt tt (record { names = λ name. refl; files = λ f. refl }) (into t OpeningLock bytes (with_item h did) k.0))
   opening Second bytes replies.Missing h x left i k a ms = split _ x left ms (Steps t (Opening Second) bytes replies.Missing h) (λ legal.
       let did : LogItem = Did t.me (calls.OpenOld 1 entry_name) replies.Missing in
       let h' : History = with_item h did in
       let none : file_of (disk_of h') entry_name ≡ None = ap (λ (d : Disk). file_of d entry_name) (disk_then h did) ∙ ap (bytes_in (disk_of h).files) legal.1.0.1 in
-      still_step t (Opening Second) bytes replies.Missing h did i refl tt (record { names = λ name. refl; files = λ f. refl }) (into t (Making false) bytes h' (k.0, going h' None (holds_own t h did refl (λ f. refl) k.1) none tt)))
+      still_step t (Opening Second) bytes replies.Missing h did i refl tt tt (record { names = λ name. refl; files = λ f. refl }) (into t (Making false) bytes h' (k.0, going h' None (holds_own t h did refl (λ f. refl) k.1) none tt)))
   opening First bytes replies.Failed h x left i k a ms = split _ x left ms.1 (Steps t (Opening First) bytes replies.Failed h) (fails t false (Opening First) bytes replies.Failed h i (failed_now t h i) (λ h' e. into t (Ended answers.FilesFault) bytes h' e))
   opening Second bytes replies.Failed h x left i k a ms = split _ x left ms.1 (Steps t (Opening Second) bytes replies.Failed h) (fails t false (Opening Second) bytes replies.Failed h i (failed_now t h i) (λ h' e. into t (ClosingLock answers.FilesFault) bytes h' e))
   opening First bytes replies.NoMemory h x left i k a ms = split _ x left ms.1 (Steps t (Opening First) bytes replies.NoMemory h) (fails t true (Opening First) bytes replies.NoMemory h i tt (λ h' e. into t (Ended answers.NoMemory) bytes h' e))
@@ -106,7 +106,7 @@ module _ (t : Task) where
       let at = at_own look h did (holds_own t h did refl (λ f. refl)) k.1 in
       let l = looks_own look h did (within_inner t.me did refl) k.2 refl refl refl in
       let long : n ≡ length k.2.0.bytes = subst (λ (o : Option (List ℕ)). IsSomeAnd o (λ w. n ≡ length w)) (in_slot t.me (asked_for t) t.root t.key h k.2.0) legal.1.0.1 in
-      still_step t (Measuring look) bytes (replies.Number n) h did i refl tt (record { names = λ name. refl; files = λ f. refl }) (into t (measured look n) bytes h' (measured_knows look bytes h' n k.0 at l long)))
+      still_step t (Measuring look) bytes (replies.Number n) h did i refl tt tt (record { names = λ name. refl; files = λ f. refl }) (into t (measured look n) bytes h' (measured_knows look bytes h' n k.0 at l long)))
   measuring look bytes replies.Failed h x left i k a ms = split _ x left ms.1 (Steps t (Measuring look) bytes replies.Failed h) (fails t false (Measuring look) bytes replies.Failed h i (failed_now t h i) (λ h' e. into t (ClosingEntry answers.FilesFault (besides_in look)) bytes h' e))
   measuring look bytes replies.NoMemory h x left i k a ms = split _ x left ms.1 (Steps t (Measuring look) bytes replies.NoMemory h) (fails t true (Measuring look) bytes replies.NoMemory h i tt (λ h' e. into t (ClosingEntry answers.NoMemory (besides_in look)) bytes h' e))
   measuring look bytes reply h x left i k a ms = absurd a
@@ -135,7 +135,7 @@ module _ (t : Task) where
       let l = looks_own look h did (within_inner t.me did refl) k.2.0 refl refl refl in
       let part : got ≡ take n (drop 0 whole) = subst (λ (o : Option (List ℕ)). IsSomeAnd o (λ w. got ≡ take n (drop 0 w))) (in_slot t.me (asked_for t) t.root t.key h k.2.0.0) legal.1.0.1 in
       let same : got ≡ whole = whole_is got whole n k.2.1 part in
-      still_step t (Reading look n) bytes (replies.Got got) h did i refl tt (record { names = λ name. refl; files = λ f. refl })
+      still_step t (Reading look n) bytes (replies.Got got) h did i refl tt tt (record { names = λ name. refl; files = λ f. refl })
       (λ next judged. judged_knows look bytes h' next k.0 at l (subst (λ (b : List ℕ). Judged t.driver look b next) same judged)))
   reading look n bytes replies.Failed h x left i k a ms = split _ x left ms.1 (Steps t (Reading look n) bytes replies.Failed h) (fails t false (Reading look n) bytes replies.Failed h i (failed_now t h i) (λ h' e. into t (ClosingEntry answers.FilesFault (besides_in look)) bytes h' e))
   reading look n bytes replies.NoMemory h x left i k a ms = split _ x left ms.1 (Steps t (Reading look n) bytes replies.NoMemory h) (fails t true (Reading look n) bytes replies.NoMemory h i tt (λ h' e. into t (ClosingEntry answers.NoMemory (besides_in look)) bytes h' e))
@@ -149,7 +149,7 @@ module _ (t : Task) where
       let holds = holds_own t h did refl (λ f. refl) k.1 in
       let l = looks_own Second h did (within_inner t.me did refl) k.2 refl refl refl in
       let part : got ≡ take 522 whole = subst (λ (o : Option (List ℕ)). IsSomeAnd o (λ w. got ≡ take 522 (drop 0 w))) (in_slot t.me (asked_for t) t.root t.key h k.2.0) legal.1.0.1 in
-      still_step t ReadingFront bytes (replies.Got got) h did i refl tt (record { names = λ name. refl; files = λ f. refl })
+      still_step t ReadingFront bytes (replies.Got got) h did i refl tt tt (record { names = λ name. refl; files = λ f. refl })
       (λ next fronted. fronted_knows (take 522 whole) bytes whole h' next (part_fronts 522 whole) (λ none driver f. none driver (fronts_part whole driver f)) k.0 holds (entry_now h' l) (subst (λ (b : List ℕ). Fronted b next) part fronted)))
   reading_front bytes replies.Failed h x left i k a ms = split _ x left ms.1 (Steps t ReadingFront bytes replies.Failed h) (fails t false ReadingFront bytes replies.Failed h i (failed_now t h i) (λ h' e. into t (ClosingEntry answers.FilesFault Lock) bytes h' e))
   reading_front bytes replies.NoMemory h x left i k a ms = split _ x left ms.1 (Steps t ReadingFront bytes replies.NoMemory h) (fails t true ReadingFront bytes replies.NoMemory h i tt (λ h' e. into t (ClosingEntry answers.NoMemory Lock) bytes h' e))
@@ -158,5 +158,5 @@ module _ (t : Task) where
   pub leaving : (bytes : List ℕ) (reply : Reply) (h : History) (x : LogItem) (left : List LogItem) → In t h → KnowsAt t Leaving bytes h → AnswersIn (asks_at t Leaving bytes) reply → MakesIn t (asks_at t Leaving bytes) reply (x ∷ left) → Steps t Leaving bytes reply h x left
   leaving bytes replies.Done h x left i k a ms = split _ x left ms (Steps t Leaving bytes replies.Done h) (λ legal.
       let did : LogItem = Did t.me (calls.Close 1) replies.Done in
-      still_step t Leaving bytes replies.Done h did i refl tt (record { names = λ name. refl; files = λ f. refl }) (into t OpeningLock bytes (with_item h did) k))
+      still_step t Leaving bytes replies.Done h did i refl tt tt (record { names = λ name. refl; files = λ f. refl }) (into t OpeningLock bytes (with_item h did) k))
   leaving bytes reply h x left i k a ms = absurd a

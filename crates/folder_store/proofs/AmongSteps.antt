@@ -24,6 +24,7 @@ use Rattle.folder_store.specs.declared.put_phase.Besides.{Besides}
 use Rattle.folder_store.specs.declared.put_phase.Besides.TheVariants.{Nothing, Lock, LockAndTemp}
 use Rattle.folder_store.specs.declared.put_phase.PutPhase.{PutPhase}
 use Rattle.folder_store.specs.Phases.{fault}
+use Rattle.folder_store.specs.Put.{NamesFront}
 use Rattle.folder_store.specs.PutPhases.{asks_put_in, after_put_asking, item_after, closing, NextPut}
 use Rattle.folder_store.proofs.AmongKnown.{Task, asked_for, lock, In, Holds, Told, KnowsAt}
 use Rattle.folder_store.proofs.Keeping.{CanFollow, still_rules, Within, within_inner}
@@ -52,6 +53,7 @@ module _ (t : Task) where
   pub record Stepped (phase : PutPhase) (bytes : List ℕ) (reply : Reply) (h : History) (x : LogItem) (left : List LogItem) : Type 0 where
     pub rules : KeepsRules h x
     pub within : Within t.me x
+    pub evicts : NamesFront t.root t.key (disk_of h) x
     pub last : left ≡ []
     pub follows : Follows phase bytes reply (with_item h x)
 
@@ -70,8 +72,8 @@ module _ (t : Task) where
 
   -- ---- an own item that changes nothing
 
-  pub still_step : (phase : PutPhase) (bytes : List ℕ) (reply : Reply) (h : History) (x : LogItem) → In t h → is_bound x ≡ false → AnswersAreEarned h x → IsStill (disk_of h) (applied (disk_of h) x) → Follows phase bytes reply (with_item h x) → Stepped phase bytes reply h x []
-  still_step phase bytes reply h x i inner earned still follows = record { rules = still_rules h x i.order earned still; within = within_inner t.me x inner; last = refl; follows = follows }
+  pub still_step : (phase : PutPhase) (bytes : List ℕ) (reply : Reply) (h : History) (x : LogItem) → In t h → is_bound x ≡ false → AnswersAreEarned h x → NamesFront t.root t.key (disk_of h) x → IsStill (disk_of h) (applied (disk_of h) x) → Follows phase bytes reply (with_item h x) → Stepped phase bytes reply h x []
+  still_step phase bytes reply h x i inner earned evicts still follows = record { rules = still_rules h x i.order earned still; within = within_inner t.me x inner; evicts = evicts; last = refl; follows = follows }
 
   -- it leaves the lock
   pub holds_own : (h : History) (x : LogItem) → (applied (disk_of h) x).names (lock t) ≡ (disk_of h).names (lock t) → ((f : ℕ) → (applied (disk_of h) x).locks f ≡ (disk_of h).locks f) → Holds t h → Holds t (with_item h x)
@@ -91,4 +93,4 @@ module _ (t : Task) where
   pub fails : (memory : Bool) (phase : PutPhase) (bytes : List ℕ) (reply : Reply) (h : History) → In t h → Told t (fault reply) (with_item h (Failed t.me memory))
       → ((h' : History) → Told t (fault reply) h' → Follows phase bytes reply h') → Steps phase bytes reply h (Failed t.me memory) []
   fails memory phase bytes reply h i told follows = λ legal.
-      still_step phase bytes reply h (Failed t.me memory) i refl tt (record { names = λ name. refl; files = λ f. refl }) (follows (with_item h (Failed t.me memory)) told)
+      still_step phase bytes reply h (Failed t.me memory) i refl tt tt (record { names = λ name. refl; files = λ f. refl }) (follows (with_item h (Failed t.me memory)) told)

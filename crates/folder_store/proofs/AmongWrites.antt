@@ -9,12 +9,14 @@ use Rattle.file_log.specs.declared.reply.Reply.{Reply}
 use Rattle.file_log.specs.declared.reply.Reply.TheVariants as replies
 use Rattle.file_log.specs.Exchange.{byte_items}
 use Rattle.file_log.specs.Log.{History}
+use Rattle.file_log.specs.State.{disk_of}
 use Rattle.file_log.specs.Writing.{written}
 use Rattle.folder_rules.specs.Changes.{with_item}
 use Rattle.folder_rules.specs.Rules.{KeepsRules}
 use Rattle.folder_store.specs.declared.put_phase.Besides.TheVariants.{LockAndTemp}
 use Rattle.folder_store.specs.declared.put_phase.PutPhase.{PutPhase}
 use Rattle.folder_store.specs.declared.put_phase.PutPhase.TheVariants.{Writing, Renaming}
+use Rattle.folder_store.specs.Put.{NamesFront}
 use Rattle.folder_store.specs.PutPhases.{closing}
 use Rattle.folder_store.proofs.AmongChanges.{changed}
 use Rattle.folder_store.proofs.AmongKnown.{Task, In, Going, HasWritten, KnowsAt}
@@ -41,6 +43,7 @@ module _ (t : Task) where
   pub record Moved (phase : PutPhase) (bytes : List ℕ) (reply : Reply) (h : History) (x : LogItem) (made : List LogItem) : Type 0 where
     pub rules : KeepsRules h x
     pub within : Within t.me x
+    pub evicts : NamesFront t.root t.key (disk_of h) x
     pub does : Doing phase bytes reply made (with_item h x)
 
   abbrev pub Moves : PutPhase → List ℕ → Reply → History → LogItem → List LogItem → Type 0
@@ -76,7 +79,7 @@ module _ (t : Task) where
       let same : y ≡ x = cc in
       let more : made (length done + 1) ≡ rest = cc in
       let moves : Moves (Writing also) bytes reply h y (made (length done + 1)) =
-      λ legal. record { rules = c.rules; within = within_inner t.me y refl; does = subst (λ (n : ℕ). Doing (Writing also) bytes reply (made n) h') (length_push done v) does } in
+      λ legal. record { rules = c.rules; within = within_inner t.me y refl; evicts = tt; does = subst (λ (n : ℕ). Doing (Writing also) bytes reply (made n) h') (length_push done v) does } in
       subst (λ (z : LogItem). Moves (Writing also) bytes reply h z rest) same (subst (Moves (Writing also) bytes reply h y) more moves)
 
   -- the write failed
@@ -96,7 +99,7 @@ module _ (t : Task) where
   failed_moves : (also : Bool) (bytes : List ℕ) (h : History) (x : LogItem) (rest : List LogItem) (done left : List ℕ) → In t h → Going t h → HasWritten t h done → x ∷ rest ≡ byte_items t.me 3 (length done) left ++ Failed t.me false ∷ [] → Moves (Writing also) bytes replies.Failed h x rest
   failed_moves also bytes h x rest done [] i g w ms = fault_moves also bytes false replies.Failed h x rest i ms (λ legal.
       let f = fails t false (Writing also) bytes replies.Failed h i (failed_now t h i) (λ h' e. into t (closing answers.FilesFault also LockAndTemp) [] h' (closing_knows t answers.FilesFault also LockAndTemp [] h' e)) legal in
-      record { rules = f.rules; within = f.within; does = f.follows })
+      record { rules = f.rules; within = f.within; evicts = tt; does = f.follows })
   failed_moves also bytes h x rest done (v ∷ vs) i g w ms =
       let h' : History = with_item h (byte done v) in
       byte_moves also bytes replies.Failed h done v (λ n. byte_items t.me 3 n vs ++ Failed t.me false ∷ []) x rest i g w ms (λ g' w'. failed_next also bytes h' (done ++ v ∷ []) vs g' w')
@@ -104,7 +107,7 @@ module _ (t : Task) where
   refused_moves : (also : Bool) (bytes : List ℕ) (h : History) (x : LogItem) (rest : List LogItem) (done left : List ℕ) → In t h → Going t h → HasWritten t h done → x ∷ rest ≡ byte_items t.me 3 (length done) left ++ Failed t.me true ∷ [] → Moves (Writing also) bytes replies.NoMemory h x rest
   refused_moves also bytes h x rest done [] i g w ms = fault_moves also bytes true replies.NoMemory h x rest i ms (λ legal.
       let f = fails t true (Writing also) bytes replies.NoMemory h i tt (λ h' e. into t (closing answers.NoMemory also LockAndTemp) [] h' (closing_knows t answers.NoMemory also LockAndTemp [] h' e)) legal in
-      record { rules = f.rules; within = f.within; does = f.follows })
+      record { rules = f.rules; within = f.within; evicts = tt; does = f.follows })
   refused_moves also bytes h x rest done (v ∷ vs) i g w ms =
       let h' : History = with_item h (byte done v) in
       byte_moves also bytes replies.NoMemory h done v (λ n. byte_items t.me 3 n vs ++ Failed t.me true ∷ []) x rest i g w ms (λ g' w'. refused_next also bytes h' (done ++ v ∷ []) vs g' w')

@@ -23,7 +23,8 @@ use Rattle.item_frame.specs.Item.{Reads}
 use Rattle.item_frame.proofs.Laws.{at_most}
 use Rattle.folder_store.specs.declared.get.FolderGet.{FolderGet}
 use Rattle.folder_store.specs.declared.get.Phase.TheVariants.{Opening, Measuring, Reading, Closing}
-use Rattle.folder_store.specs.Holds.{FileReads, FolderHolds, Finds, FindsOrFails}
+use Rattle.folder_rules.specs.Holds.{FileReads, FolderHolds}
+use Rattle.folder_store.specs.Finds.{Finds, FindsOrFails}
 use Rattle.folder_store.specs.Phases.{asked, Fed}
 use Rattle.folder_store.proofs.Calls.{From, Stepped, stepped, asks_at, next_of, not_done, item_for}
 use Rattle.folder_store.proofs.Outcome.{closing, ended}

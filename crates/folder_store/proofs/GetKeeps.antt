@@ -44,7 +44,7 @@ use Rattle.folder_changes.proofs.Framing.{others_leave}
 use Rattle.folder_store.specs.declared.get.FolderGet.{FolderGet}
 use Rattle.folder_store.specs.declared.get.Phase.{Phase}
 use Rattle.folder_store.specs.declared.get.Phase.TheVariants.{Opening, Measuring, Reading, Closing, Ended, Spent}
-use Rattle.folder_store.specs.Holds.{Finds}
+use Rattle.folder_store.specs.Finds.{Finds}
 use Rattle.folder_store.specs.Keeping.{HasKept, KeepsRulesAmong, OthersKeepRules, WasLacking, AsksGet}
 use Rattle.folder_store.specs.Phases.{IsNew, asks, asks_in, asked, after_asking, Next, Fed}
 use Rattle.folder_store.proofs.Calls.{IsLooking, item_for, makes_one, looks, ask_is, done_is, not_ask, not_done}

@@ -12,6 +12,7 @@ pub mod GetKeeps
 pub mod WholeLookup
 pub mod PutCalls
 pub mod PutOutcome
+pub mod PutEvicts
 pub mod PutDisks
 pub mod LockDisks
 pub mod PutKnown

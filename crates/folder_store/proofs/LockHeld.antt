@@ -37,7 +37,9 @@ use Rattle.folder_store.specs.declared.put.FolderPut.{FolderPut}
 use Rattle.folder_store.specs.declared.put_phase.Look.TheVariants.{First}
 use Rattle.folder_store.specs.declared.put_phase.PutPhase.{PutPhase}
 use Rattle.folder_store.specs.declared.put_phase.PutPhase.TheVariants.{Opening}
-use Rattle.folder_store.specs.Locking.{lock_name, HoldsLock, MakesLockAlone, OwnMakesLockAlone, TriesLock, IsUnderLock, ChangesUnderLock}
+use Rattle.folder_changes.specs.Frame.{HasFolder}
+use Rattle.folder_rules.specs.Kinds.{folder_byte}
+use Rattle.folder_store.specs.Locking.{lock_name, MakesLockAlone, OwnMakesLockAlone, TriesLock, IsUnderLock, ChangesUnderLock}
 use Rattle.folder_store.specs.PutPhases.{asks_put, asked_put, FedPut}
 use Rattle.folder_store.proofs.Calls.{IsLooking, item_for, makes_one}
 use Rattle.folder_store.proofs.Items.{all_append}
@@ -65,7 +67,7 @@ module _ (me : Who) (root : ℕ) (key : Key) where
   lock = lock_name root key
 
   abbrev Holds : State → Type 0
-  Holds s = HoldsLock me root key s.disk
+  Holds s = HasFolder s.disk me root (folder_byte key)
 
   -- slot 0 has the lock file
   pub record HasLockFile (s : State) : Type 0 where
@@ -128,7 +130,7 @@ module _ (me : Who) (root : ℕ) (key : Key) where
   -- an own item that leaves the lock, its file and its name alone
   pub record IsKeeper (x : LogItem) : Type 0 where
     pub mine : is_own me x ≡ true
-    pub holds : (d : Disk) → HoldsLock me root key d → HoldsLock me root key (applied d x)
+    pub holds : (d : Disk) → HasFolder d me root (folder_byte key) → HasFolder (applied d x) me root (folder_byte key)
     pub tries : (d : Disk) → TriesLock root key d x
 
   -- what is known within a call, with the items that it still makes
@@ -187,15 +189,15 @@ module _ (me : Who) (root : ℕ) (key : Key) where
       not_false true e = refl
       not_false false e = absurd cc
 
-  locked_holds : (d : Disk) (f : ℕ) → d.names lock ≡ Some f → is_held me (d.locks f) ≡ false → HoldsLock me root key (locked d me 0 (Some f))
+  locked_holds : (d : Disk) (f : ℕ) → d.names lock ≡ Some f → is_held me (d.locks f) ≡ false → HasFolder (locked d me 0 (Some f)) me root (folder_byte key)
   locked_holds d f named free =
       let t = taken_mine (d.locks f) free in
       record { file = f; slot = t.0; named = named; taken = rw (eq-eqb f f refl) t.1 }
 
-  pub trying_holds : (s : State) → HasLockFile s → is_slot_held s.disk me 0 ≡ false → HoldsLock me root key (locked s.disk me 0 (s.disk.slots me 0))
+  pub trying_holds : (s : State) → HasLockFile s → is_slot_held s.disk me 0 ≡ false → HasFolder (locked s.disk me 0 (s.disk.slots me 0)) me root (folder_byte key)
   trying_holds s k free =
       let free' : is_held me (s.disk.locks k.file) ≡ false = ap (λ (o : Option ℕ). is_held me (lock_in s.disk o)) (sym k.slot) ∙ free in
-      subst (λ (o : Option ℕ). HoldsLock me root key (locked s.disk me 0 o)) (sym k.slot) (locked_holds s.disk k.file k.named free')
+      subst (λ (o : Option ℕ). HasFolder (locked s.disk me 0 o) me root (folder_byte key)) (sym k.slot) (locked_holds s.disk k.file k.named free')
 
   tries_it : (s : State) (reply : Reply) → HasLockFile s → TriesLock root key s.disk (items.Did me (calls.TryLock 0) reply)
   tries_it s reply k = (k.file, k.slot, k.named)
@@ -222,22 +224,22 @@ module _ (me : Who) (root : ℕ) (key : Key) where
 
   -- ---- items under the lock
 
-  keeps_as : (d d' : Disk) → d'.names lock ≡ d.names lock → ((f : ℕ) → d'.locks f ≡ d.locks f) → HoldsLock me root key d → HoldsLock me root key d'
+  keeps_as : (d d' : Disk) → d'.names lock ≡ d.names lock → ((f : ℕ) → d'.locks f ≡ d.locks f) → HasFolder d me root (folder_byte key) → HasFolder d' me root (folder_byte key)
   keeps_as d d' names locks h = record { file = h.file; slot = h.slot; named = names ∙ h.named; taken = locks h.file ∙ h.taken }
 
-  made_keeps : (d : Disk) (file : Option ℕ) (name : Name) → same_name lock name ≡ false → HoldsLock me root key d → HoldsLock me root key (made_at file d name)
+  made_keeps : (d : Disk) (file : Option ℕ) (name : Name) → same_name lock name ≡ false → HasFolder d me root (folder_byte key) → HasFolder (made_at file d name) me root (folder_byte key)
   made_keeps d None name other h = keeps_as d (made_at None d name) (rw (other_way lock name other) refl) (λ f. refl) h
   made_keeps d (Some f) name other h = h
 
-  rewritten_keeps : (d : Disk) (file : Option ℕ) (change : List ℕ → List ℕ) → HoldsLock me root key d → HoldsLock me root key (rewritten d file change)
+  rewritten_keeps : (d : Disk) (file : Option ℕ) (change : List ℕ → List ℕ) → HasFolder d me root (folder_byte key) → HasFolder (rewritten d file change) me root (folder_byte key)
   rewritten_keeps d None change h = h
   rewritten_keeps d (Some f) change h = keeps_as d (rewritten d (Some f) change) refl (λ g. refl) h
 
-  renamed_keeps : (d : Disk) (file : Option ℕ) (from to : Name) → same_name lock from ≡ false → same_name lock to ≡ false → HoldsLock me root key d → HoldsLock me root key (renamed d file from to)
+  renamed_keeps : (d : Disk) (file : Option ℕ) (from to : Name) → same_name lock from ≡ false → same_name lock to ≡ false → HasFolder d me root (folder_byte key) → HasFolder (renamed d file from to) me root (folder_byte key)
   renamed_keeps d None from to no_from no_to h = h
   renamed_keeps d (Some f) from to no_from no_to h = keeps_as d (renamed d (Some f) from to) (rw (other_way lock to no_to, other_way lock from no_from) refl) (λ g. refl) h
 
-  done_keeps : (call : Call) (d : Disk) → LeavesAlone root key call → HoldsLock me root key d → HoldsLock me root key (done_call d me call)
+  done_keeps : (call : Call) (d : Disk) → LeavesAlone root key call → HasFolder d me root (folder_byte key) → HasFolder (done_call d me call) me root (folder_byte key)
   done_keeps (calls.OpenOld slot name) d leaves h = keeps_as d (done_call d me (calls.OpenOld slot name)) refl (λ f. refl) h
   done_keeps (calls.OpenNew slot name) d leaves h =
       let h' = made_keeps d (d.names name) name leaves h in

@@ -16,7 +16,7 @@ use Rattle.files_api.specs.Drive.{items_of_all, SomeFailed}
 use Rattle.item_frame.specs.Item.{Reads}
 use Rattle.folder_store.specs.declared.get.FolderGet.{FolderGet}
 use Rattle.folder_store.specs.declared.get.Phase.TheVariants.{Opening, Measuring, Reading, Closing, Ended}
-use Rattle.folder_store.specs.Holds.{Finds}
+use Rattle.folder_store.specs.Finds.{Finds}
 use Rattle.folder_store.specs.Lookup.{IsLookupAnswer}
 use Rattle.folder_store.proofs.Items.{any_fault}
 use Rattle.folder_store.proofs.Calls.{From, Stepped, stepped, asks_at, next_of, done_is, not_done, not_ask, item_for}

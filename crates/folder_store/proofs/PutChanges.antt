@@ -17,7 +17,9 @@ use Rattle.disk_laws.proofs.Tidiness.{item_tidy}
 use Rattle.folder_store.specs.declared.put_phase.Besides.{Besides}
 use Rattle.folder_store.specs.declared.put_phase.Besides.TheVariants.{Lock, LockAndTemp}
 use Rattle.folder_store.specs.declared.put_phase.PutPhase.TheVariants.{Evicting, Making, Cutting, Writing, Renaming, ClosingEntry, ClosingTemp, ClosingLock, Ended}
-use Rattle.folder_store.specs.Entries.{folder_of, EvictIsOpen}
+use Rattle.folder_rules.specs.Holds.{address}
+use Rattle.folder_rules.specs.Operations.{EvictIsOpen}
+use Rattle.folder_rules.specs.Whole.{folder_of}
 use Rattle.folder_store.specs.Put.{TellsReplaced}
 use Rattle.folder_store.specs.PutPhases.{closing}
 use Rattle.folder_store.proofs.PutDisks.{same_bytes, making_apart, making_has, writing_apart, writing_has, renaming_is}
@@ -43,7 +45,7 @@ module _ (j : Job) where
       let still : IsStill p.state.disk p.state.disk = record { names = λ name. refl; files = λ f. refl } in
       let base : Base j p' = record { tidy = b.tidy; begun = put_item_on p.log (evict ∷ []) j.root j.key j.item b.begun; elsewhere = b.elsewhere; free = b.free } in
       let tells : TellsReplaced j.me j.root j.key (Some whole) p'.told = inl (driver, k.2.2, told) in
-      let opened : EvictIsOpen p'.log j.me (folder_of j.root) driver j.key = record { before = p.log; later = []; log_is = refl; is_open = tt } in
+      let opened : EvictIsOpen p'.log j.me (address (folder_of j.root) driver j.key) = record { before = p.log; later = []; log_is = refl; is_open = tt } in
       let going : Going j p' = record {
         entry = k.1.entry;
         lacks = k.1.lacks;
@@ -51,7 +53,7 @@ module _ (j : Job) where
         told = λ bytes' driver' is fronts.
             let same : bytes' ≡ whole = same_bytes bytes' whole (sym is ∙ k.2.1) in
             let one : driver ≡ driver' = one_front whole driver driver' k.2.2 (subst (λ (l : List ℕ). Fronts l driver') same fronts) in
-            subst (λ (d : DriverKeys). EvictIsOpen p'.log j.me (folder_of j.root) d j.key) one opened;
+            subst (λ (d : DriverKeys). EvictIsOpen p'.log j.me (address (folder_of j.root) d j.key)) one opened;
       } in
       record {
         right = record { whole = whole_still p.log p.state.disk p.state.disk evict still; replaces = tt; ends = tt };

@@ -31,7 +31,12 @@ use Rattle.files_api.specs.Drive.{Runs, items_of_all, IsEndOf}
 use Rattle.item_frame.specs.Item.{Reads}
 use Rattle.item_frame.proofs.Laws.{Reads-from_as, at_least}
 use Rattle.folder_store.specs.declared.put.FolderPut.{FolderPut}
-use Rattle.folder_store.specs.Entries.{folder_of, with_item, EntriesAreWhole, IsWholeAfter, EvictIsOpen, ReplacesTold, IsSpared, OthersSpare}
+use Rattle.folder_rules.specs.Holds.{address}
+use Rattle.folder_rules.specs.Changes.{with_item}
+use Rattle.folder_rules.specs.Operations.{EvictIsOpen}
+use Rattle.folder_rules.specs.Rules.{EntriesStayWhole}
+use Rattle.folder_rules.specs.Whole.{folder_of, EntriesAreWhole}
+use Rattle.folder_store.specs.Entries.{ReplacesTold, IsSpared, OthersSpare}
 use Rattle.folder_store.specs.Locking.{IsUnlocked}
 use Rattle.folder_store.specs.Put.{AsksPut, blob_in, Leaves, LeavesElsewhere, TellsEvicts, PutsAlone, is_evict}
 use Rattle.folder_store.specs.PutPhases.{IsNewPut, asks_put, asked_put, FedPut}
@@ -76,11 +81,11 @@ module _ (me : Who) (request : Request) (root : ℕ) (driver : DriverKeys) (key 
       ((legal.0, spared, λ is. (mine is).0), fair_of alone (with_item h x) (step me p x) news (at_next me h p x at) legal.1 spare.1 (λ is. (mine is).1))
 
   -- entries stay whole
-  keeps_whole : (alone : Bool) (h : History) (p : Place) (news : List LogItem) → IsAt h p → All (step me) (IsKept alone) p news → EntriesAreWhole h → Keeps with_item IsWholeAfter me h news
+  keeps_whole : (alone : Bool) (h : History) (p : Place) (news : List LogItem) → IsAt h p → All (step me) (IsKept alone) p news → EntriesAreWhole h → Keeps with_item EntriesStayWhole me h news
   keeps_whole alone h p [] at all whole = tt
   keeps_whole alone h p (x ∷ news) at all whole = (λ mine. now (all.0 mine), λ rule. keeps_whole alone (with_item h x) (step me p x) news (at_next me h p x at) all.1 rule)
     where
-      now : IsRight (job alone) p x → IsWholeAfter h x
+      now : IsRight (job alone) p x → EntriesStayWhole h x
       now right =
           let next = at_next me h p x at in
           let here : AreWhole p.log p.state.disk = subst (λ (log : List LogItem). AreWhole log p.state.disk) (sym at.log) (subst (λ (s : State). AreWhole h.log s.disk) (sym at.state) whole) in
@@ -89,7 +94,7 @@ module _ (me : Who) (request : Request) (root : ℕ) (driver : DriverKeys) (key 
   -- and none is replaced before that was told
   told_at : (h : History) (p : Place) (x : LogItem) → IsAt h p → Replaces p x → ReplacesTold h x
   told_at h p (items.Did who (Rename from (Entry root' key')) Done) at r = λ bytes driver' is fronts.
-      subst (λ (log : List LogItem). EvictIsOpen log who (folder_of root') driver' key') at.log (r bytes driver' (ap (λ (s : State). file_of s.disk (Entry root' key')) at.state ∙ is) fronts)
+      subst (λ (log : List LogItem). EvictIsOpen log who (address (folder_of root') driver' key')) at.log (r bytes driver' (ap (λ (s : State). file_of s.disk (Entry root' key')) at.state ∙ is) fronts)
   told_at h p x at r = tt
 
   keeps_told : (alone : Bool) (h : History) (p : Place) (news : List LogItem) → IsAt h p → All (step me) (IsKept alone) p news → Keeps with_item ReplacesTold me h news
@@ -107,7 +112,7 @@ module _ (me : Who) (request : Request) (root : ℕ) (driver : DriverKeys) (key 
         let fair = fair_of alone h (place_of h) news (record { state = refl; log = refl }) o.owns.legal spare mine in
         all_right (job alone) request fits (filled driver item blob reads) asks reads begin answer news (place_of h) xs given end new runs answer_is o.owns.own_items (record { tidy = tidy h; free = free }) fair o.owns.goes_on
 
-    pub put_whole : (h : History) (news : List LogItem) → OwnsToEnd me made h news → All with_item (OthersSpare me root key) h news → EntriesAreWhole h → Keeps with_item IsWholeAfter me h news
+    pub put_whole : (h : History) (news : List LogItem) → OwnsToEnd me made h news → All with_item (OthersSpare me root key) h news → EntriesAreWhole h → Keeps with_item EntriesStayWhole me h news
     put_whole h news o spare whole =
         keeps_whole false h (place_of h) news (record { state = refl; log = refl }) (right_from false h news o spare (λ is. absurd (false≢true is)) (λ is. absurd (false≢true is))) whole
 

@@ -1,5 +1,6 @@
 -- A whole put, from its Begin to its End, keeps the rules among seats.
-use Rattle.std.proofs.Common.{◌≡◌, inl, inr, ℕ, true, false, nat_eq, List, [], ◌∷◌, ◌++◌, length, sym, ap, ◌∙◌, subst}
+use Rattle.std.proofs.Common.{◌≡◌, inl, inr, ℕ, Bool, true, false, nat_eq, List, [], ◌∷◌, ◌++◌, length, refl, sym, ap, ◌∙◌, subst}
+use Rattle.std.proofs.lemmas.Bool.{false≢true}
 use Rattle.std.proofs.lemmas.List.{append-nil}
 use Rattle.cache_types.specs.Driver.{DriverKeys}
 use Rattle.cache_types.specs.declared.answer.Answer.{Answer}
@@ -37,8 +38,8 @@ use Rattle.folder_store.specs.declared.put_phase.Besides.TheVariants.{Lock}
 use Rattle.folder_store.specs.declared.put_phase.Look.TheVariants.{First}
 use Rattle.folder_store.specs.declared.put_phase.PutPhase.{PutPhase}
 use Rattle.folder_store.specs.declared.put_phase.PutPhase.TheVariants.{Opening, Measuring, Reading, ReadingFront, Leaving, OpeningLock, Locking, Pausing, Evicting, Evicted, Making, Cutting, Writing, Renaming, ClosingEntry, ClosingTemp, ClosingLock, Ended, Spent}
-use Rattle.folder_store.specs.Keeping.{KeepsRulesAmong}
-use Rattle.folder_store.specs.Put.{AsksPut, blob_in}
+use Rattle.folder_store.specs.Keeping.{HasKept, KeepsRulesAmong, OthersKeepRules}
+use Rattle.folder_store.specs.Put.{AsksPut, blob_in, NamesFront, EvictsNameFronts}
 use Rattle.folder_store.specs.PutPhases.{IsNewPut, asks_put, asks_put_in, asked_put, after_put_asking, item_after, FedPut, NextPut}
 use Rattle.folder_store.proofs.AmongChanges.{evicting, making, cutting, renaming, closing_entry, closing_temp, closing_lock}
 use Rattle.folder_store.proofs.AmongKnown.{Task, asked_for, In, Told, KnowsAt, going_other, written_other, knows_other, told_earns}
@@ -60,6 +61,14 @@ module _ (t : Task) (some : nat_eq (length t.item) 0 ≡ false) (reads : Reads t
 
   abbrev this_put : Request
   this_put = asked_for t
+
+  -- a seat's own Evict names what stands in front of the entry
+  abbrev Names : History → LogItem → Type 0
+  Names h x = is_own t.me x ≡ true → NamesFront t.root t.key (disk_of h) x
+
+  -- the rules among seats, and that
+  abbrev Rule : History → LogItem → Type 0
+  Rule h x = KeepsRules h x × Names h x
 
   abbrev Between : FolderPut → History → Type 0
   Between m h = IsFor m × In t h × KnowsAt t m.phase m.item h
@@ -110,7 +119,7 @@ module _ (t : Task) (some : nat_eq (length t.item) 0 ≡ false) (reads : Reads t
   -- ---- an own item
 
   follows : (phase : PutPhase) (bytes : List ℕ) (reply : Reply) (h : History) (x : LogItem) (made : List LogItem) → Stepped t phase bytes reply h x made → Moved t phase bytes reply h x made
-  follows phase bytes reply h x made s = record { rules = s.rules; within = s.within; does = subst (λ (l : List LogItem). Doing t phase bytes reply l (with_item h x)) (sym s.last) s.follows }
+  follows phase bytes reply h x made s = record { rules = s.rules; within = s.within; evicts = s.evicts; does = subst (λ (l : List LogItem). Doing t phase bytes reply l (with_item h x)) (sym s.last) s.follows }
 
   moves : (phase : PutPhase) (bytes : List ℕ) (reply : Reply) (x : LogItem) (made : List LogItem) (h : History) → In t h → Doing t phase bytes reply (x ∷ made) h → CanFollow h x → Moved t phase bytes reply h x made
   moves (Opening look) bytes reply x made h i d legal = follows (Opening look) bytes reply h x made (opening t look bytes reply h x made i d.0 d.1 d.2 legal)
@@ -146,15 +155,15 @@ module _ (t : Task) (some : nat_eq (length t.item) 0 ≡ false) (reads : Reads t
       (going_other t h x within left d.0, (d.1.0, written_other t h x d.1.0 left d.0.holds d.1.1, d.1.2))
   doing_other phase bytes reply (y ∷ made) h x other left d = (knows_other t phase bytes h x (within_other t.me x other) other left d.0, d.1, d.2)
 
-  inductive : Inductive asks_put asked_put FedPut t.me with_item CanFollow KeepsRules Between During
+  inductive : Inductive asks_put asked_put FedPut t.me with_item CanFollow Rule Between During
   inductive = record {
     enters = enters;
     steps = λ m call reply x made h d legal.
         let g = moves m.phase m.item reply x made h d.1 d.2 legal in
-        (g.rules, (d.0, in_then t.me this_put h x d.1 g.within legal g.rules, g.does));
-    others = λ m call reply made x h d other goes legal rules. (d.0, in_other h x d.1 other legal rules, doing_other m.phase m.item reply made h x other (leaves h x d.1 other goes rules) d.2);
+        ((g.rules, λ mine. g.evicts), (d.0, in_then t.me this_put h x d.1 g.within legal g.rules, g.does));
+    others = λ m call reply made x h d other goes legal rules. (d.0, in_other h x d.1 other legal rules.0, doing_other m.phase m.item reply made h x other (leaves h x d.1 other goes rules.0) d.2);
     between = λ m x h b other goes legal rules.
-        (b.0, in_other h x b.1 other legal rules, knows_other t m.phase m.item h x (within_other t.me x other) other (leaves h x b.1 other goes rules) b.2);
+        (b.0, in_other h x b.1 other legal rules.0, knows_other t m.phase m.item h x (within_other t.me x other) other (leaves h x b.1 other goes rules.0) b.2);
     leaves = λ m n call reply h d fed. next_is m n reply h d.0 d.1 d.2 fed;
   }
     where
@@ -181,21 +190,37 @@ module _ (t : Task) (some : nat_eq (length t.item) 0 ≡ false) (reads : Reads t
       let told = told_end given answer h is (ended m.phase m.item given h b.2 (asks_is m b.0 ∙ e)) in
       end_rules t.me h answer b.1.order (told_earns t answer h b.1 told)
 
-  outer : (first : FolderPut) (answer : Answer) → IsNewPut t.root t.driver t.key t.item first → Outer asks_put t.me with_item CanFollow KeepsRules Between (IsOut t.me) first this_put answer
+  outer : (first : FolderPut) (answer : Answer) → IsNewPut t.root t.driver t.key t.item first → Outer asks_put t.me with_item CanFollow Rule Between (IsOut t.me) first this_put answer
   outer first answer new = record {
     begins = λ h out legal.
         let h' : History = with_item h (Begin t.me this_put) in
         let knows : KnowsAt t (Opening First) first.item h' = (new.item_is, tt) in
-        (begin_rules t.me this_put h out, (record { root = new.root_is; driver = new.driver_is; key = new.key_is }, begun t.me this_put h out legal, subst (λ (p : PutPhase). KnowsAt t p first.item h') (sym new.opening) knows));
-    ends = λ m given h b e is legal. let rules = ends m given answer h b e is in (rules, out_ended t.me h answer b.1.order legal rules);
-    outside = λ x h out other goes legal rules. out_other t.me h x out other legal rules;
+        ((begin_rules t.me this_put h out, λ mine. tt), (record { root = new.root_is; driver = new.driver_is; key = new.key_is }, begun t.me this_put h out legal, subst (λ (p : PutPhase). KnowsAt t p first.item h') (sym new.opening) knows));
+    ends = λ m given h b e is legal. let rules = ends m given answer h b e is in ((rules, λ mine. tt), out_ended t.me h answer b.1.order legal rules);
+    outside = λ x h out other goes legal rules. out_other t.me h x out other legal rules.0;
   }
 
-  -- A put of a seat in no operation is not the first to break a rule.
+  rule_of : (h : History) (x : LogItem) → (is_own t.me x ≡ true → Rule h x) → (is_own t.me x ≡ false → KeepsRules h x) → Rule h x
+  rule_of h x mine other = by_test (is_own t.me x) refl
+    where
+      by_test : (b : Bool) → is_own t.me x ≡ b → Rule h x
+      by_test true e = mine e
+      by_test false e = (other e, λ own'. absurd (false≢true (sym e ∙ own')))
+
+  keeps_rules : (h : History) (news : List LogItem) → Keeps with_item Rule t.me h news → Keeps with_item KeepsRules t.me h news
+  keeps_rules h [] k = tt
+  keeps_rules h (x ∷ news) k = (λ mine. (k.0 mine).0, λ rules. keeps_rules (with_item h x) news (k.1 (rule_of h x k.0 (λ other. rules))))
+
+  all_name : (h : History) (news : List LogItem) → Keeps with_item Rule t.me h news → OthersKeepRules t.me h news → EvictsNameFronts t.me t.root t.key h news
+  all_name h [] k others = tt
+  all_name h (x ∷ news) k others = let rule = rule_of h x k.0 others.0 in (rule.1, all_name (with_item h x) news (k.1 rule) others.1)
+
+  -- A put of a seat in no operation is not the first to break a rule, or to tell an Evict that names no front.
   pub keeps_asked : (first last : FolderPut) (xs : List Exchange) (given answer : Answer) (h : History) (news : List LogItem) → IsNewPut t.root t.driver t.key t.item first → Runs asks_put asked_put FedPut t.me first xs given last → IsEndOf given answer
-      → own t.me news ≡ Begin t.me this_put ∷ (items_of_all xs ++ End t.me answer ∷ []) → Legal (state_of h) news → NoStop t.me.process news → IsOut t.me h → Keeps with_item KeepsRules t.me h news
+      → own t.me news ≡ Begin t.me this_put ∷ (items_of_all xs ++ End t.me answer ∷ []) → Legal (state_of h) news → NoStop t.me.process news → IsOut t.me h → Keeps with_item KeepsRules t.me h news × (OthersKeepRules t.me h news → EvictsNameFronts t.me t.root t.key h news)
   keeps_asked first last xs given answer h news new runs is e legal goes out =
-      (weave_operation asks_put asked_put FedPut t.me with_item CanFollow KeepsRules Between During inductive (IsOut t.me) first this_put answer (outer first answer new) news h [] xs given last out runs is (append-nil (own t.me news) ∙ e) (follow h news legal) goes).0
+      let woven = (weave_operation asks_put asked_put FedPut t.me with_item CanFollow Rule Between During inductive (IsOut t.me) first this_put answer (outer first answer new) news h [] xs given last out runs is (append-nil (own t.me news) ∙ e) (follow h news legal) goes).0 in
+      (keeps_rules h news woven, all_name h news woven)
 
 -- ---- of each request for it
 
@@ -207,11 +232,17 @@ asked_so (requests.Put store driver' key' meta blob limit) root driver key item 
 )
 asked_so request root driver key item asks = absurd asks
 
+-- what it keeps among seats that keep the rules
+pub record IsKeptAmong (me : Who) (root : ℕ) (key : Key) (h : History) (news : List LogItem) : Type 0 where
+  pub keeps : KeepsRulesAmong me h news
+  pub evicts : HasKept h → OthersKeepRules me h news → EvictsNameFronts me root key h news
+
 pub put_keeps : (me : Who) (request : Request) (root : ℕ) (driver : DriverKeys) (key : Key) (item : List ℕ) (first last : FolderPut) (xs : List Exchange) (given answer : Answer) (h : History) (news : List LogItem) → AsksPut request root driver key item → IsNewPut root driver key item first
-    → Runs asks_put asked_put FedPut me first xs given last → IsEndOf given answer → own me news ≡ Begin me request ∷ (items_of_all xs ++ End me answer ∷ []) → Legal (state_of h) news → NoStop me.process news → (course_of me h.log).inside ≡ false → KeepsRulesAmong me h news
-put_keeps me request root driver key item first last xs given answer h news asks new runs is e legal goes idle kept =
+    → Runs asks_put asked_put FedPut me first xs given last → IsEndOf given answer → own me news ≡ Begin me request ∷ (items_of_all xs ++ End me answer ∷ []) → Legal (state_of h) news → NoStop me.process news → (course_of me h.log).inside ≡ false → IsKeptAmong me root key h news
+put_keeps me request root driver key item first last xs given answer h news asks new runs is e legal goes idle =
     let r = asked_so request root driver key item asks in
     let reads = asked_reads request root driver key item asks in
     let t : Task = record { me = me; root = root; driver = driver; key = key; meta = r.0; blob = blob_in request; limit = r.1; item = item } in
     let e' = subst (λ (q : Request). own me news ≡ Begin me q ∷ (items_of_all xs ++ End me answer ∷ [])) (sym r.2) e in
-    keeps_asked t (filled driver item (blob_in request) reads) reads first last xs given answer h news new runs is e' legal goes (record { order = order_of h kept; idle = idle })
+    let both = λ (kept : HasKept h). keeps_asked t (filled driver item (blob_in request) reads) reads first last xs given answer h news new runs is e' legal goes (record { order = order_of h kept; idle = idle }) in
+    record { keeps = λ kept. (both kept).0; evicts = λ kept. (both kept).1 }

@@ -20,8 +20,10 @@ use Rattle.folder_store.specs.declared.put_phase.Look.{Look}
 use Rattle.folder_store.specs.declared.put_phase.Look.TheVariants.{First, Second}
 use Rattle.folder_store.specs.declared.put_phase.PutPhase.{PutPhase}
 use Rattle.folder_store.specs.declared.put_phase.PutPhase.TheVariants.{Opening, Measuring, Reading, ReadingFront, Leaving, OpeningLock, Locking, Pausing, Evicting, Evicted, Making, Cutting, Writing, Renaming, ClosingEntry, ClosingTemp, ClosingLock, Ended, Spent}
-use Rattle.folder_store.specs.Entries.{folder_of, IsPutItem, NoEndOf, is_end_of, EvictIsOpen, IsSpared}
-use Rattle.folder_store.specs.Holds.{FileReads}
+use Rattle.folder_rules.specs.Holds.{address, FileReads}
+use Rattle.folder_rules.specs.Operations.{NoEndOf, is_end_of, EvictIsOpen}
+use Rattle.folder_rules.specs.Whole.{folder_of, IsPutItem}
+use Rattle.folder_store.specs.Entries.{IsSpared}
 use Rattle.folder_store.specs.Put.{LeavesElsewhere, TellsReplaced}
 use Rattle.folder_store.specs.Locking.{lock_name, IsUnlocked}
 use Rattle.folder_store.proofs.PutDisks.{HasOld, HasTemp, spared_file, elsewhere_then}
@@ -89,7 +91,7 @@ no_end_on : (me : Who) (log : List LogItem) (x : LogItem) → NoEndOf me log →
 no_end_on me [] x none e = (e, tt)
 no_end_on me (y ∷ log) x none e = (none.0, no_end_on me log x none.1 e)
 
-pub evict_on : (log : List LogItem) (x : LogItem) (me : Who) (store : Store) (driver : DriverKeys) (key : Key) → EvictIsOpen log me store driver key → is_end_of me x ≡ false → EvictIsOpen (log ++ x ∷ []) me store driver key
+pub evict_on : (log : List LogItem) (x : LogItem) (me : Who) (store : Store) (driver : DriverKeys) (key : Key) → EvictIsOpen log me (address store driver key) → is_end_of me x ≡ false → EvictIsOpen (log ++ x ∷ []) me (address store driver key)
 evict_on log x me store driver key o e = record {
   before = o.before;
   later = o.later ++ x ∷ [];
@@ -144,7 +146,7 @@ module _ (j : Job) where
     pub entry : now p ≡ old p
     pub lacks : Lacks (old p)
     pub replaced : TellsReplaced j.me j.root j.key (old p) p.told
-    pub told : (bytes : List ℕ) (driver : DriverKeys) → old p ≡ Some bytes → Fronts bytes driver → EvictIsOpen p.log j.me (folder_of j.root) driver j.key
+    pub told : (bytes : List ℕ) (driver : DriverKeys) → old p ≡ Some bytes → Fronts bytes driver → EvictIsOpen p.log j.me (address (folder_of j.root) driver j.key)
 
   abbrev pub HasEntry : Place → List ℕ → Type 0
   HasEntry p whole = HasOld p.state.disk j.me j.root j.key whole
@@ -268,7 +270,7 @@ module _ (j : Job) where
     lacks = lacks_on p p' g.passes k.lacks;
     replaced = tells_on p p' g.passes k.replaced;
     told = λ bytes driver is fronts.
-        subst (λ (log : List LogItem). EvictIsOpen log j.me (folder_of j.root) driver j.key) (sym g.passes.log)
+        subst (λ (log : List LogItem). EvictIsOpen log j.me (address (folder_of j.root) driver j.key)) (sym g.passes.log)
         (evict_on p.log g.passes.x j.me (folder_of j.root) driver j.key (k.told bytes driver (sym (old_on p p' g.passes) ∙ is) fronts) g.passes.no_end);
   }
 

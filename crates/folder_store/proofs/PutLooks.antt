@@ -23,7 +23,7 @@ use Rattle.folder_store.specs.declared.put_phase.Look.{Look}
 use Rattle.folder_store.specs.declared.put_phase.Look.TheVariants.{First, Second}
 use Rattle.folder_store.specs.declared.put_phase.PutPhase.{PutPhase}
 use Rattle.folder_store.specs.declared.put_phase.PutPhase.TheVariants.{Opening, Measuring, Reading, ReadingFront, Leaving, OpeningLock, Evicting, Making, ClosingEntry, ClosingLock, Ended}
-use Rattle.folder_store.specs.Holds.{FileReads}
+use Rattle.folder_rules.specs.Holds.{FileReads}
 use Rattle.folder_store.specs.Put.{TellsReplaced}
 use Rattle.folder_store.specs.PutPhases.{besides_in, too_long, measured, Judged, Fronted}
 use Rattle.folder_store.proofs.PutDisks.{same_bytes, own_slot}

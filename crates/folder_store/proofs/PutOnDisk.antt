@@ -15,7 +15,10 @@ use Rattle.file_log.specs.Disk.{Disk, file_of}
 use Rattle.file_log.specs.Effect.{applied}
 use Rattle.file_log.specs.Log.{History, with_items, own, is_own}
 use Rattle.file_log.specs.State.{State, disk_of}
-use Rattle.folder_store.specs.Entries.{with_item, EntriesAreWhole, IsWholeAfter, ReplacesTold, OthersSpare}
+use Rattle.folder_rules.specs.Changes.{with_item}
+use Rattle.folder_rules.specs.Rules.{EntriesStayWhole}
+use Rattle.folder_rules.specs.Whole.{EntriesAreWhole}
+use Rattle.folder_store.specs.Entries.{ReplacesTold, OthersSpare}
 use Rattle.folder_store.specs.Put.{PutsAlone, is_evict}
 use Rattle.folder_store.specs.Locking.{lock_name, IsUnlocked}
 use Rattle.folder_store.proofs.PutDisks.{keeps_as}
@@ -25,7 +28,7 @@ use Rattle.folder_store.proofs.PutPlaces.{state_then}
 -- what the new items of a put do to the disk, alone and among others
 pub record OnDisk (me : Who) (root : ℕ) (driver : DriverKeys) (key : Key) (blob : List ℕ) (answer : Answer) (h : History) (news : List LogItem) : Type 0 where
   pub alone : own me news ≡ news → IsUnlocked me root key (disk_of h) → PutsAlone me root driver key blob answer (disk_of h) (disk_of (with_items h news)) (own me news)
-  pub whole : All with_item (OthersSpare me root key) h news → EntriesAreWhole h → Keeps with_item IsWholeAfter me h news
+  pub whole : All with_item (OthersSpare me root key) h news → EntriesAreWhole h → Keeps with_item EntriesStayWhole me h news
   pub tells_first : All with_item (OthersSpare me root key) h news → Keeps with_item ReplacesTold me h news
 
 -- an item that changes nothing on a disk
@@ -44,12 +47,12 @@ module _ (me : Who) where
   later_rest item log true rests = rests.1
   later_rest item log false rests = rests
 
-  rests_whole : (h : History) (item : LogItem) → applied (disk_of h) item ≡ disk_of h → EntriesAreWhole h → IsWholeAfter h item
+  rests_whole : (h : History) (item : LogItem) → applied (disk_of h) item ≡ disk_of h → EntriesAreWhole h → EntriesStayWhole h item
   rests_whole h item rests whole root key bytes is =
       let same : disk_of (with_item h item) ≡ disk_of h = ap (λ (s : State). s.disk) (state_then h (item ∷ [])) ∙ rests in
       put_item_on h.log (item ∷ []) root key bytes (whole root key bytes (sym (ap (λ (d : Disk). file_of d (Entry root key)) same) ∙ is))
 
-  rests_keeps_whole : (h : History) (news : List LogItem) → AllByRecursion Rests (own me news) → EntriesAreWhole h → Keeps with_item IsWholeAfter me h news
+  rests_keeps_whole : (h : History) (news : List LogItem) → AllByRecursion Rests (own me news) → EntriesAreWhole h → Keeps with_item EntriesStayWhole me h news
   rests_keeps_whole h [] rests whole = tt
   rests_keeps_whole h (item ∷ log) rests whole =
       (λ mine. rests_whole h item ((first_rests item log (is_own me item) mine rests).0 (disk_of h)) whole, λ rule. rests_keeps_whole (with_item h item) log (later_rest item log (is_own me item) rests) rule)

@@ -17,7 +17,9 @@ use Rattle.file_log.specs.Log.{is_own}
 use Rattle.file_log.specs.Operation.{IsStill}
 use Rattle.disk_laws.proofs.Locks.{own_locks}
 use Rattle.disk_laws.proofs.Tidiness.{item_tidy}
-use Rattle.folder_store.specs.Entries.{folder_of, IsPutItem, is_end_of, EvictIsOpen}
+use Rattle.folder_rules.specs.Holds.{address}
+use Rattle.folder_rules.specs.Operations.{is_end_of, EvictIsOpen}
+use Rattle.folder_rules.specs.Whole.{folder_of, IsPutItem}
 use Rattle.folder_store.specs.Locking.{lock_name, IsUnlocked}
 use Rattle.folder_store.specs.Put.{Leaves, LeavesElsewhere, TellsEvicts}
 use Rattle.folder_store.proofs.PutDisks.{same_bytes, Apart, still_file, still_elsewhere, still_spared, entry_elsewhere, lock_no_temp, apart_elsewhere, apart_entry}
@@ -29,7 +31,7 @@ AreWhole log d = (root : ℕ) (key : Key) (bytes : List ℕ) → file_of d (Entr
 -- an entry is replaced once that was told
 abbrev pub Replaces : Place → LogItem → Type 0
 Replaces p (items.Did who (Rename from (Entry root key)) Done) =
-    (bytes : List ℕ) (driver : DriverKeys) → file_of p.state.disk (Entry root key) ≡ Some bytes → Fronts bytes driver → EvictIsOpen p.log who (folder_of root) driver key
+    (bytes : List ℕ) (driver : DriverKeys) → file_of p.state.disk (Entry root key) ≡ Some bytes → Fronts bytes driver → EvictIsOpen p.log who (address (folder_of root) driver key)
 Replaces p x = Unit {0}
 
 pub whole_still : (log : List LogItem) (d d' : Disk) (x : LogItem) → IsStill d d' → AreWhole log d → AreWhole (log ++ x ∷ []) d'

@@ -38,8 +38,9 @@ use Rattle.folder_store.specs.declared.put_phase.Besides.TheVariants.{Lock}
 use Rattle.folder_store.specs.declared.put_phase.Look.TheVariants.{First}
 use Rattle.folder_store.specs.declared.put_phase.PutPhase.{PutPhase}
 use Rattle.folder_store.specs.declared.put_phase.PutPhase.TheVariants.{Opening, Measuring, Reading, ReadingFront, Leaving, OpeningLock, Locking, Pausing, Evicting, Evicted, Making, Cutting, Writing, Renaming, ClosingEntry, ClosingTemp, ClosingLock, Ended, Spent}
-use Rattle.folder_store.specs.Entries.{folder_of, IsPutItem, IsSpared}
-use Rattle.folder_store.specs.Holds.{FileReads}
+use Rattle.folder_rules.specs.Holds.{FileReads}
+use Rattle.folder_rules.specs.Whole.{folder_of, IsPutItem}
+use Rattle.folder_store.specs.Entries.{IsSpared}
 use Rattle.folder_store.specs.Locking.{IsUnlocked}
 use Rattle.folder_store.specs.Put.{AsksPut, Leaves, LeavesElsewhere, TellsEvicts}
 use Rattle.folder_store.specs.PutPhases.{IsNewPut, asks_put, asks_put_in, asked_put, after_put_asking, item_after, FedPut, NextPut}

@@ -17,7 +17,8 @@ use Rattle.file_log.proofs.All.{none_keeps}
 use Rattle.files_api.specs.Drive.{items_of_all, IsEndOf, Refused, Unmade, Operated}
 use Rattle.folder_store.specs.declared.get.FolderGet.{FolderGet}
 use Rattle.folder_store.specs.declared.get.Phase.{Phase}
-use Rattle.folder_store.specs.Holds.{FolderHolds, FindsOrFails}
+use Rattle.folder_rules.specs.Holds.{FolderHolds}
+use Rattle.folder_store.specs.Finds.{FindsOrFails}
 use Rattle.folder_store.specs.Lookup.{IsLookupAnswer, LookedUp}
 use Rattle.folder_store.specs.Phases.{asks, asked, Fed, left_in, IsNew}
 use Rattle.folder_store.proofs.Items.{any_fault, all_within, all_counted}

@@ -15,7 +15,7 @@ use Rattle.file_log.specs.Operation.{is_fault, calls_in}
 use Rattle.files_api.specs.Drive.{items_of_all, IsEndOf, Refused, Unmade, Operated}
 use Rattle.folder_store.specs.declared.put.FolderPut.{FolderPut}
 use Rattle.folder_store.specs.declared.put_phase.PutPhase.{PutPhase}
-use Rattle.folder_store.specs.Put.{IsPutAnswer, AsksPut, PutDone, blob_in, is_change, is_want}
+use Rattle.folder_store.specs.Put.{IsPutAnswer, AsksPut, PutDone, ReplacesEvicted, blob_in, is_change, is_want}
 use Rattle.folder_store.specs.PutPhases.{IsNewPut, asks_put, asked_put, FedPut, most_put_calls, put_left_in}
 use Rattle.folder_store.proofs.Items.{any_fault, any_want, any_change, all_within, all_counted}
 use Rattle.folder_store.proofs.Operations.{Grows-from, no_fault, never_fault, any_inside}
@@ -33,6 +33,7 @@ use Rattle.folder_store.proofs.PutOutcome.{put_outcome}
 use Rattle.folder_rules.specs.Changes.{with_item}
 use Rattle.folder_rules.specs.Rules.{KeepsRules}
 use Rattle.folder_store.proofs.Keeping.{IsIdleIn, unmade_keeps}
+use Rattle.folder_store.proofs.PutEvicts.{any_evict, plain_names, put_replaces}
 use Rattle.folder_store.proofs.PutKeeps.{put_keeps}
 
 -- a put's answer carries no list, so it is told as the machine gives it
@@ -83,6 +84,8 @@ module _ (me : Who) (request : Request) (root : ℕ) (driver : DriverKeys) (key 
           fault = never_fault answer (own me news) r.answer_is (ap any_fault o.own_items);
           want = λ e. never_changes (own me news) (ap any_change o.own_items);
           keeps = λ kept. none_keeps with_item KeepsRules me h news o.own_items;
+          evicts = λ kept others. plain_names me root key h news (ap any_evict o.own_items);
+          replaces = subst (λ (a : Answer). ReplacesEvicted root key a (own me news)) (sym r.answer_is) tt;
         });
   }
 
@@ -103,6 +106,8 @@ module _ (me : Who) (request : Request) (root : ℕ) (driver : DriverKeys) (key 
           fault = never_fault answer (own me news) r.answer_is (ap any_fault o.owns.own_items);
           want = λ e. never_changes (own me news) (ap any_change o.owns.own_items);
           keeps = unmade_keeps me request h news o.owns.own_items o.owns.legal o.owns.goes_on (idle h is_old);
+          evicts = λ kept others. plain_names me root key h news (ap any_evict o.owns.own_items);
+          replaces = subst (λ (a : Answer). ReplacesEvicted root key a (own me news)) (sym r.answer_is) tt;
         });
   }
 
@@ -125,6 +130,7 @@ module _ (me : Who) (request : Request) (root : ℕ) (driver : DriverKeys) (key 
             let wants : any_want (own me news) ≡ any_want inner = ap any_want o.owns.own_items ∙ any_inside is_want me request answer inner refl refl in
             let replies : lock_replies (own me news) ≡ lock_replies inner = ap lock_replies o.owns.own_items ∙ whole_replies me root key request answer inner in
             let changes : any_change (own me news) ≡ any_change inner = ap any_change o.owns.own_items ∙ any_inside is_change me request answer inner refl refl in
+            let among = put_keeps me request root driver key item r.first r.last r.exchanges r.given answer h news asks begun r.runs r.answer_is o.owns.own_items o.owns.legal o.owns.goes_on (idle h is_old) in
             record {
               operation = inr (record { inner = inner; whole = o.owns.own_items; within = within; few = few });
               alone = put_alone me request root driver key item fits asks answer r.given r.first r.last r.exchanges begun r.runs r.answer_is h news o within;
@@ -135,7 +141,9 @@ module _ (me : Who) (request : Request) (root : ℕ) (driver : DriverKeys) (key 
               calm = λ e. calm_all me root key (state_of h) news (subst (AreCalm me root key) (sym o.owns.own_items) (whole_calm me root key request answer inner (tried.calm (sym same ∙ e))));
               fault = (λ e. faults ∙ out.told (sym same ∙ e), λ some. same ∙ out.only (sym faults ∙ some));
               want = λ e c. wants ∙ out.want (sym same ∙ e) (sym changes ∙ c);
-              keeps = put_keeps me request root driver key item r.first r.last r.exchanges r.given answer h news asks begun r.runs r.answer_is o.owns.own_items o.owns.legal o.owns.goes_on (idle h is_old);
+              keeps = among.keeps;
+              evicts = among.evicts;
+              replaces = subst (λ (a : Answer). ReplacesEvicted root key a (own me news)) (sym same) (put_replaces me request root key r.first r.last r.exchanges r.given answer (own me news) begun.root_is begun.key_is begun.opening r.runs o.owns.own_items);
             });
       }
 

@@ -1,4 +1,4 @@
-pub mod Holds
+pub mod Finds
 pub mod Phases
 pub mod Laws
 pub mod Keeping

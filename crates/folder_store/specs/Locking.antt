@@ -1,11 +1,10 @@
 -- The lock of a folder: whose name it has, who holds it, and what is done under it.
-use Rattle.std.specs.Prelude.{◌≡◌, ◌⊎◌, ◌<◌, ℕ, true, false, get_or, List, [], ◌∷◌, ◌++◌, replicate, Some}
+use Rattle.std.specs.Prelude.{◌≡◌, ◌⊎◌, ◌<◌, ℕ, true, false, List, [], ◌∷◌, ◌++◌, replicate, Some}
 use Rattle.cache_types.specs.declared.key.Key.{Key}
 use Rattle.cache_types.specs.declared.name.Name.{Name}
 use Rattle.cache_types.specs.declared.name.Name.TheVariants.{FolderLock}
 use Rattle.cache_types.specs.declared.seat.Who.{Who}
 use Rattle.cache_types.specs.Names.{same_name}
-use Rattle.disk_laws.specs.Locks.{lock_by}
 use Rattle.file_log.specs.declared.call.Call.TheVariants.{TryLock}
 use Rattle.file_log.specs.declared.item.LogItem.{LogItem}
 use Rattle.file_log.specs.declared.item.LogItem.TheVariants as items
@@ -16,12 +15,10 @@ use Rattle.file_log.specs.Effect.{applied}
 use Rattle.file_log.specs.Legal.{is_held}
 use Rattle.file_log.specs.Log.{is_own}
 use Rattle.file_log.specs.State.{State}
+use Rattle.folder_changes.specs.Frame.{HasFolder}
+use Rattle.folder_rules.specs.Kinds.{folder_byte}
 
 -- ---- whose lock it is
-
--- the folder in which a key's entry lies: the key's first byte
-abbrev pub folder_byte : Key → ℕ
-folder_byte key = get_or key.bytes 0 0
 
 -- the lock file of a key's folder
 abbrev pub lock_name : ℕ → Key → Name
@@ -30,13 +27,6 @@ lock_name root key = FolderLock root (folder_byte key)
 -- no other seat holds the lock of the key's folder
 abbrev pub IsUnlocked : Who → ℕ → Key → Disk → Type 0
 IsUnlocked me root key d = is_held me (lock_in d (d.names (lock_name root key))) ≡ false
-
--- a seat holds the lock of the key's folder, through one of its slots
-pub record HoldsLock (me : Who) (root : ℕ) (key : Key) (d : Disk) : Type 0 where
-  pub file : ℕ
-  pub slot : ℕ
-  pub named : d.names (lock_name root key) ≡ Some file
-  pub taken : d.locks file ≡ lock_by me slot
 
 -- ---- tries
 
@@ -72,7 +62,7 @@ OwnMakesLockAlone me root key s item = is_own me item ≡ true → MakesLockAlon
 
 -- an item of this seat tries no other lock, and changes names and files under the lock alone
 pub record IsUnderLock (me : Who) (root : ℕ) (key : Key) (d : Disk) (item : LogItem) : Type 0 where
-  pub changes : MakesLockAlone root key d (applied d item) ⊎ HoldsLock me root key d
+  pub changes : MakesLockAlone root key d (applied d item) ⊎ HasFolder d me root (folder_byte key)
   pub tries : TriesLock root key d item
 
 -- the lock file keeps its name

@@ -13,7 +13,8 @@ use Rattle.file_log.specs.Log.{History, own}
 use Rattle.file_log.specs.Operation.{IsOperation, LeavesAll, is_fault}
 use Rattle.file_log.specs.State.{after, state_of, disk_of}
 use Rattle.file_log.specs.Told.{Grows, Rose}
-use Rattle.folder_store.specs.Holds.{FolderHolds, FindsOrFails}
+use Rattle.folder_rules.specs.Holds.{FolderHolds}
+use Rattle.folder_store.specs.Finds.{FindsOrFails}
 use Rattle.folder_store.specs.Keeping.{HasKept, KeepsRulesAmong, OthersKeepRules, WasLacking, AsksGet}
 
 -- an answer that a lookup ends with

@@ -15,7 +15,7 @@ use Rattle.item_frame.specs.Item.{Reads}
 use Rattle.folder_store.specs.declared.get.Phase.{Phase}
 use Rattle.folder_store.specs.declared.get.Phase.TheVariants.{Opening, Measuring, Reading, Closing, Ended, Spent}
 use Rattle.folder_store.specs.declared.get.FolderGet.{FolderGet}
-use Rattle.folder_store.specs.Holds.{Finds}
+use Rattle.folder_store.specs.Finds.{Finds}
 
 -- a lookup of this key for this driver in this root, which has done nothing yet
 pub record IsNew (root : ℕ) (driver : DriverKeys) (key : Key) (m : FolderGet) : Type 0 where

@@ -1,5 +1,5 @@
 -- What a put into a folder store does, as the log tells it.
-use Rattle.std.specs.Prelude.{◌≡◌, ◌⊎◌, ◌↔◌, ℕ, Bool, true, false, List, [], ◌∷◌, Option, Some, None, filter}
+use Rattle.std.specs.Prelude.{◌≡◌, ◌⊎◌, ◌↔◌, ℕ, Bool, true, false, List, [], ◌∷◌, Option, Some, None, IsSomeAnd, filter}
 use Rattle.std.specs.List.{list_any}
 use Rattle.cache_types.specs.declared.answer.Answer.{Answer}
 use Rattle.cache_types.specs.declared.answer.Answer.TheVariants.{Stored, Kept, Busy, FilesFault, NoMemory}
@@ -17,15 +17,18 @@ use Rattle.file_log.specs.declared.item.LogItem.TheVariants as items
 use Rattle.file_log.specs.declared.reply.Reply.TheVariants.{Done}
 use Rattle.file_log.specs.Along.{All, Keeps}
 use Rattle.file_log.specs.Disk.{Disk, file_of}
-use Rattle.file_log.specs.Log.{History, with_items, own}
+use Rattle.file_log.specs.Log.{History, with_items, is_own, own}
 use Rattle.file_log.specs.Operation.{IsOperation, IsStill, is_fault}
 use Rattle.file_log.specs.State.{after, state_of, disk_of}
 use Rattle.file_log.specs.Told.{Grows, Rose}
 use Rattle.item_frame.specs.Item.{ReadsAs}
-use Rattle.folder_store.specs.Entries.{folder_of, with_item, EntriesAreWhole, IsWholeAfter, ReplacesTold, OthersSpare}
+use Rattle.folder_rules.specs.Changes.{with_item, is_rename}
+use Rattle.folder_rules.specs.Holds.{FolderHolds, address, IsHeld}
+use Rattle.folder_rules.specs.Rules.{EntriesStayWhole}
+use Rattle.folder_rules.specs.Whole.{folder_of, EntriesAreWhole}
+use Rattle.folder_store.specs.Entries.{ReplacesTold, OthersSpare}
 use Rattle.folder_store.specs.declared.put_phase.TheConstants.{LOCK_TRIES}
-use Rattle.folder_store.specs.Holds.{FolderHolds}
-use Rattle.folder_store.specs.Keeping.{KeepsRulesAmong}
+use Rattle.folder_store.specs.Keeping.{HasKept, KeepsRulesAmong, OthersKeepRules}
 use Rattle.folder_store.specs.Locking.{lock_name, IsUnlocked, HeldInRow, lock_replies, ChangesUnderLock, OwnMakesLockAlone}
 use Rattle.folder_store.specs.PutPhases.{most_put_calls}
 
@@ -52,15 +55,11 @@ blob_in request = []
 
 -- ---- what it leaves
 
--- the store holds some blob
-abbrev pub IsHeld : Disk → ℕ → DriverKeys → Key → Type 0
-IsHeld d root driver key = (blob : List ℕ) × FolderHolds d root driver key blob
-
 -- Stored: the store held none and now holds the put's own, and no temporary name is left. Kept: it held one, and nothing changed.
 -- It isn't Busy. After a failure, or for want of memory, the entry is as it was.
 abbrev pub Leaves : ℕ → DriverKeys → Key → List ℕ → Answer → Disk → Disk → Type 0
-Leaves root driver key blob Stored old new = (IsHeld old root driver key → ⊥) × FolderHolds new root driver key blob × (new.names (Temp root key) ≡ None)
-Leaves root driver key blob Kept old new = IsHeld old root driver key × IsStill old new
+Leaves root driver key blob Stored old new = (IsHeld old (address (folder_of root) driver key) → ⊥) × FolderHolds new root driver key blob × (new.names (Temp root key) ≡ None)
+Leaves root driver key blob Kept old new = IsHeld old (address (folder_of root) driver key) × IsStill old new
 Leaves root driver key blob Busy old new = ⊥
 Leaves root driver key blob answer old new = file_of new (Entry root key) ≡ file_of old (Entry root key)
 
@@ -98,6 +97,28 @@ TellsEvicts me root key entry Stored evicts = TellsReplaced me root key entry ev
 TellsEvicts me root key entry Kept evicts = evicts ≡ []
 TellsEvicts me root key entry answer evicts = (evicts ≡ []) ⊎ TellsReplaced me root key entry evicts
 
+-- the Evict names the key's entry in the folder store of this root, and the driver whose blob stands in front of its file
+abbrev pub NamesFront : ℕ → Key → Disk → LogItem → Type 0
+NamesFront root key d (items.Evict who store driver key') = (store ≡ folder_of root) × (key' ≡ key) × IsSomeAnd (file_of d (Entry root key)) (λ bytes. Fronts bytes driver)
+NamesFront root key d item = Unit {0}
+
+-- each of the seat's does
+abbrev pub EvictsNameFronts : Who → ℕ → Key → History → List LogItem → Type 0
+EvictsNameFronts me root key h news = All with_item (λ h' item. is_own me item ≡ true → NamesFront root key (disk_of h') item) h news
+
+-- after each Evict the entry is replaced
+abbrev pub EntryIsReplaced : ℕ → Key → List LogItem → Type 0
+EntryIsReplaced root key [] = Unit {0}
+EntryIsReplaced root key (item ∷ made) = (is_evict item ≡ true → list_any (is_rename (Temp root key) (Entry root key)) made ≡ true) × EntryIsReplaced root key made
+
+-- A put that stored replaced the entry after each Evict, one that kept or was busy told none. After a fault, or for want of memory, what
+-- was told may still be there.
+abbrev pub ReplacesEvicted : ℕ → Key → Answer → List LogItem → Type 0
+ReplacesEvicted root key Stored made = EntryIsReplaced root key made
+ReplacesEvicted root key Kept made = list_any is_evict made ≡ false
+ReplacesEvicted root key Busy made = list_any is_evict made ≡ false
+ReplacesEvicted root key answer made = Unit {0}
+
 -- ---- a put alone
 
 -- A put where no other seat has an item or holds the folder's lock: what it leaves of the key's entry, that all else is as it
@@ -130,7 +151,7 @@ pub record Puts (me : Who) (request : Request) (root : ℕ) (driver : DriverKeys
   -- what it does where all new items are its own, and at first no other seat holds the lock of the key's folder
   pub alone : own me news ≡ news → IsUnlocked me root key (disk_of h) → PutsAlone me root driver key blob answer (disk_of h) (disk_of (with_items h news)) (own me news)
   -- where others leave the key's entry and its temporary file alone, it is not the first whose item leaves an entry that isn't whole
-  pub whole : All with_item (OthersSpare me root key) h news → EntriesAreWhole h → Keeps with_item IsWholeAfter me h news
+  pub whole : All with_item (OthersSpare me root key) h news → EntriesAreWhole h → Keeps with_item EntriesStayWhole me h news
   -- and it replaces no entry of a driver before it told that this goes
   pub tells_first : All with_item (OthersSpare me root key) h news → Keeps with_item ReplacesTold me h news
   -- it changes names and files under the lock of the key's folder alone, as long as no other seat takes the lock file its name
@@ -145,6 +166,10 @@ pub record Puts (me : Who) (request : Request) (root : ℕ) (driver : DriverKeys
   pub want : answer ≡ NoMemory → list_any is_change (own me news) ≡ true → list_any is_want (own me news) ≡ true
   -- among seats that keep the rules it keeps them too
   pub keeps : KeepsRulesAmong me h news
+  -- and each of its Evicts names what stands in front of the key's entry then
+  pub evicts : HasKept h → OthersKeepRules me h news → EvictsNameFronts me root key h news
+  -- which it replaces after that, unless it ends in a fault or for want of memory
+  pub replaces : ReplacesEvicted root key answer (own me news)
 
 -- The same where the log may not be told: the answer is one of a put, and a fault has its cause in the count of faults.
 pub record PutDone (me : Who) (request : Request) (root : ℕ) (driver : DriverKeys) (key : Key) (blob : List ℕ) (old new : Option History) (before now : ℕ) (answer : Answer) : Type 0 where

@@ -1,6 +1,6 @@
 ghost use Rattle.std.specs.Prelude.{◌≡◌, nat_lt, if◌then◌else◌};
 ghost use Rattle.item_frame.specs.Item.{Reads};
-ghost use Rattle.folder_store.specs.Holds.{Finds};
+ghost use Rattle.folder_store.specs.Finds.{Finds};
 ghost use Rattle.folder_store.specs.Phases.{IsNew, Next, fault};
 
 use cache_types::{Answer, Driver, Key, MAX_ITEM, Name};

@@ -12,8 +12,9 @@ use std::alloc::Global;
 /// The answer is `Hit` with the blob that the store holds for the driver, `Miss` where it holds none,
 /// `FilesFault` exactly where a call failed, or `NoMemory`. In a log that is told, the own items are one
 /// operation of at most four calls in this root, or none where there was no memory to begin one; they change
-/// no name and no file, and among seats that keep the rules they keep them. Afterwards no operation is open
-/// and every slot is empty, whatever the answer.
+/// no name and no file, and among seats that keep the rules they keep them. Among those `Miss` says that after
+/// one of them the store held no such blob, also after stops and failed calls. Afterwards no operation
+/// is open and every slot is empty, whatever the answer.
 pub fn folder_get<F: Files>(
     alloc: Global,
     files: &mut F,

@@ -16,8 +16,10 @@ use std::alloc::Global;
 ///
 /// Names and files are changed under that lock alone, as long as other seats leave the lock file its name. In
 /// a log that is told, the own items are one operation of at most 143 calls in this root, or none where there
-/// was no memory to begin one. Among seats that keep the rules they keep them. Afterwards no operation is
-/// open and every slot is empty, whatever the answer.
+/// was no memory to begin one. Among seats that keep the rules they keep them, and each `Evict` names what
+/// stands in front of the key's entry, which the put then replaces, unless it ends in `FilesFault` or
+/// `NoMemory`; one that ends in `Kept` or `Busy` tells none. Afterwards no operation is open and every slot is
+/// empty, whatever the answer.
 pub fn folder_put<F: Files>(
     alloc: Global,
     files: &mut F,

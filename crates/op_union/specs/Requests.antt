@@ -17,6 +17,7 @@ use Rattle.file_log.specs.Log.{History, own}
 use Rattle.file_log.specs.Operation.{LeavesAll}
 use Rattle.file_log.specs.State.{after, state_of}
 use Rattle.file_log.specs.Told.{Grows}
+use Rattle.folder_store.specs.Keeping.{KeepsRulesAmong}
 use Rattle.folder_store.specs.Lookup.{LookedUp}
 use Rattle.folder_store.specs.Put.{PutDone}
 use Rattle.item_frame.specs.Writing.{key_count}
@@ -55,11 +56,18 @@ kept_after kept (Some store) = Some store
 
 -- ---- a blob that is too large
 
+-- a put of a blob of n bytes, more than an item can have
+abbrev pub AsksLarge : Request → ℕ → Type 0
+AsksLarge (requests.Put store driver key meta blob limit) n = (length blob ≡ n) × (MAX_BLOB < length blob)
+AsksLarge request n = ⊥
+
 -- The operation made no call and changed nothing, or nothing was begun for want of memory: a history h went on by these new
 -- items.
 pub record RefusesLarge (me : Who) (request : Request) (answer : Answer) (h : History) (news : List LogItem) : Type 0 where
   pub operation : ((own me news ≡ []) × (answer ≡ NoMemory)) ⊎ (own me news ≡ Begin me request ∷ End me answer ∷ [])
   pub still : All after (LeavesAll me) (state_of h) news
+  -- among seats that keep the rules it keeps them too
+  pub keeps : KeepsRulesAmong me h news
 
 -- a put of a blob of n bytes, which are too many, was refused
 pub record RefusedLarge (me : Who) (request : Request) (n : ℕ) (old new : Option History) (answer : Answer) : Type 0 where

@@ -1,5 +1,5 @@
 -- What a file reads as for a driver, and what an entry gives.
-use Rattle.std.proofs.Common.{◌≡◌, ◌≢◌, ◌⊎◌, inl, inr, ℕ, List, Option, Some, None, Result, Ok, Err, refl, sym, ap, ◌∙◌}
+use Rattle.std.proofs.Common.{◌≡◌, ◌≢◌, inl, inr, ℕ, List, Option, Some, None, Result, Ok, Err, refl, sym, ap, ◌∙◌}
 use Rattle.std.specs.Prelude.{IfOk, OnOk}
 use Rattle.std.specs.Result.{result_err}
 use Rattle.cache_types.specs.Driver.{DriverKeys, blob_of}
@@ -11,7 +11,7 @@ use Rattle.cache_types.specs.declared.store.Layout.TheVariants.{Folder, Database
 use Rattle.file_log.specs.Disk.{Disk, bytes_in}
 use Rattle.item_frame.specs.Item.{Reads}
 use Rattle.item_frame.specs.Reading.{item_at}
-use Rattle.item_frame.specs.Refusals.{first_refusal, IsRefused}
+use Rattle.item_frame.specs.Refusals.{IsRefused}
 use Rattle.item_frame.specs.declared.refusal.ItemRefusal.{ItemRefusal}
 use Rattle.item_frame.specs.declared.refusal.ItemRefusal.TheVariants.{NoMemory}
 use Rattle.item_frame.proofs.FirstRefusal.{first_refusal_is}

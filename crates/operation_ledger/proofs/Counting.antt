@@ -1,5 +1,5 @@
 -- How often in a row a lock was found held.
-use Rattle.std.proofs.Common.{◌≡◌, ℕ, ◌+◌, ◌≤◌, Bool, true, false, cond, not, nat_eq, List, Option, Some, None, refl, sym, ap, ◌∙◌, filter, arith}
+use Rattle.std.proofs.Common.{◌≡◌, ℕ, Bool, true, false, cond, not, nat_eq, List, Option, None, refl, sym, ap, ◌∙◌, filter, arith}
 use Rattle.std.proofs.lemmas.Bool.{eqb-true}
 use Rattle.world_tables.specs.Find.{find_by}
 use Rattle.world_tables.proofs.Finds.{dropped_if}

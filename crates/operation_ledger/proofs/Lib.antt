@@ -4,3 +4,5 @@ pub mod Blobs
 pub mod Learning
 pub mod Listing
 pub mod Going
+pub mod Seating
+pub mod Says

@@ -1,5 +1,5 @@
 -- The entry at which a request looks, and what its file reads as.
-use Rattle.std.specs.Prelude.{ℕ, List, Option, Some, None}
+use Rattle.std.specs.Prelude.{ℕ, List, Option, None}
 use Rattle.cache_types.specs.declared.key.Key.{Key}
 use Rattle.cache_types.specs.declared.name.Name.TheVariants as names
 use Rattle.cache_types.specs.declared.request.Request.{Request}

@@ -1,5 +1,5 @@
 -- The operations that seats are in, as a log's summary says.
-use Rattle.std.specs.Prelude.{◌≡◌, ℕ, Bool, true, List, ◌++◌, min, Option, Some, None, if◌then◌else◌}
+use Rattle.std.specs.Prelude.{◌≡◌, ℕ, Bool, true, List, ◌++◌, Option, Some, None, if◌then◌else◌}
 use Rattle.std.specs.List.{list_any}
 use Rattle.cache_types.specs.Seats.{same_seat}
 use Rattle.cache_types.specs.declared.name.Name.{Name}

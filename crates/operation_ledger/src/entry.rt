@@ -6,11 +6,11 @@ ghost use Rattle.log_summary.specs.Summary.{read_for};
 ghost use Rattle.operation_ledger.specs.Entries.{entry_by, entry_of as the_entry, read_by};
 ghost use Rattle.world_tables.specs.Tables.{disk_at};
 
-use crate::tables::{bytes_of, number_of};
+use crate::tables::bytes_of;
 use cache_types::{Bytes, Driver, Key, Layout, Name, NoMemory, Request, Store};
 use item_frame::{ItemRefusal, read_blob};
 use std::alloc::Global;
-use world_tables::Tables;
+use world_tables::{Tables, number_of};
 
 /// The number of the file that a key's entry has in a store.
 fn entry_in(tables: &Tables, store: Store, key: Key) -> Option<usize>

@@ -11,10 +11,9 @@ mod names_had;
 mod operation;
 mod operations;
 mod tables;
+#[cfg(test)]
+mod tests;
 mod tries;
 
-pub use name_list::NameList;
 pub use names_had::NamesHad;
-pub use operation::OpenOperation;
 pub use operations::Operations;
-pub use tries::HeldTries;

@@ -12,9 +12,8 @@ ghost use Rattle.operation_ledger.specs.Listed.{AreListed};
 ghost use Rattle.world_tables.specs.Tables.{disk_at};
 
 use crate::names_had::NamesHad;
-use crate::tables::number_of;
 use cache_types::{Name, Request};
-use world_tables::Tables;
+use world_tables::{Tables, number_of};
 
 /// The root that a request speaks of.
 pub fn root_of(request: &Request) -> u32

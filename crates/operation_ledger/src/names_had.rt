@@ -6,11 +6,10 @@ ghost use Rattle.log_summary.specs.Summary.{gained, gained_by, gained_list};
 ghost use Rattle.operation_ledger.specs.NameLists.{names_at, HaveSame};
 
 use crate::name_list::NameList;
-use crate::tables::number_of;
 use cache_types::{Bytes, Name, NoMemory, Text};
 use file_log::{Call, LogItem, Reply};
 use std::alloc::Global;
-use world_tables::Tables;
+use world_tables::{Tables, number_of};
 
 /// The names that each file has had, by the file's number.
 #[derive(Debug, Drop)]
@@ -41,7 +40,8 @@ fn add(alloc: Global, files: &mut Vec<NameList>, file: usize, name: Name) -> Res
 
 /// Takes the last name of a file away again.
 fn take_back(files: &mut Vec<NameList>, file: usize)
-    ensures { (names : ℕ → List Name) (name : Name) → ((f : ℕ) → names_at files.old.items f ≡ (if nat_eq file f then names f ++ name ∷ [] else names f)) → (f : ℕ) → names_at files.new.items f ≡ names f }
+    ensures { (names : ℕ → List Name) (name : Name) → ((f : ℕ) → names_at files.old.items f ≡ (if nat_eq file f then names f ++ name ∷ [] else names f))
+        → (f : ℕ) → names_at files.new.items f ≡ names f }
 {
     if file < files.len() {
         files[file].pop();
@@ -125,6 +125,17 @@ impl NamesHad {
         }
     }
 
+    /// Goes on over a call with its reply: only one that was answered Done gives names.
+    fn follow_reply(&mut self, tables: &Tables, call: &Call, reply: &Reply) -> Result<(), NoMemory>
+        ensures ok { OnOk result (Gains self.old self.new (gained_by (disk_at tables.now) call.now reply.now)) }
+        ensures err { OnErr result (HaveSame self.old.files.items self.new.files.items) }
+    {
+        match reply {
+            Reply::Done => self.follow_call(tables, call),
+            _ => Ok(()),
+        }
+    }
+
     /// Goes on over a list of read-only databases that is set or taken away.
     fn follow_list(&mut self, tables: &Tables, text: &Option<Bytes>) -> Result<(), NoMemory>
         ensures ok { OnOk result (Gains self.old self.new (gained_list (disk_at tables.now) text.now)) }
@@ -145,8 +156,8 @@ impl NamesHad {
             LogItem::Did {
                 who: _,
                 call,
-                reply: Reply::Done,
-            } => self.follow_call(tables, call),
+                reply,
+            } => self.follow_reply(tables, call, reply),
             LogItem::Install {
                 root,
                 name,

@@ -14,12 +14,11 @@ use crate::entry::{entry_of, read_entry};
 use crate::given::{Lately, learn};
 use crate::locks::{is_lock_file, root_of};
 use crate::names_had::NamesHad;
-use crate::tables::file_in;
 use crate::tries::{HeldTries, TRIES_BEFORE, count_try, tries_of};
 use cache_types::{Bytes, NoMemory, Request, Who};
 use file_log::{Call, LogItem, Reply};
 use std::alloc::Global;
-use world_tables::Tables;
+use world_tables::{Tables, file_in};
 
 /// An operation that a seat is in.
 #[derive(Debug, Drop)]
@@ -122,7 +121,8 @@ impl OpenOperation {
 
     /// Whether a try for a file's lock that was found held is the 64th in a row that holds it off.
     fn is_held_off(&self, names: &NamesHad, tables: &Tables, file: usize) -> bool
-        ensures { (had : List (Name × ℕ)) (row : ℕ → ℕ) → IsNamesHad names.now had → AreListed had (disk_at tables.now) → AreTries self.now.tries.items row → result ≡ is_last_try had (disk_at tables.now) (the_root self.now.request) row (Some file) }
+        ensures { (had : List (Name × ℕ)) (row : ℕ → ℕ) → IsNamesHad names.now had → AreListed had (disk_at tables.now)
+            → AreTries self.now.tries.items row → result ≡ is_last_try had (disk_at tables.now) (the_root self.now.request) row (Some file) }
     {
         tries_of(&self.tries, file) >= TRIES_BEFORE
             && is_lock_file(names, tables, root_of(&self.request), file)
@@ -132,7 +132,8 @@ impl OpenOperation {
     fn count(&mut self, names: &NamesHad, tables: &Tables, who: Who, slot: u8, reply: &Reply)
         requires { vec_len self.old.tries < vec_capacity self.old.tries }
         ensures row { (row : ℕ → ℕ) → AreTries self.old.tries.items row → AreTries self.new.tries.items (row_after row (disk_at tables.now) (Did who (TryLock slot) reply.now)) }
-        ensures held_off { (had : List (Name × ℕ)) (row : ℕ → ℕ) → IsNamesHad names.now had → AreListed had (disk_at tables.now) → AreTries self.old.tries.items row → self.new.held_off ≡ (self.old.held_off || is_64th had (disk_at tables.now) (the_root self.old.request) row (Did who (TryLock slot) reply.now)) }
+        ensures held_off { (had : List (Name × ℕ)) (row : ℕ → ℕ) → IsNamesHad names.now had → AreListed had (disk_at tables.now)
+            → AreTries self.old.tries.items row → self.new.held_off ≡ (self.old.held_off || is_64th had (disk_at tables.now) (the_root self.old.request) row (Did who (TryLock slot) reply.now)) }
         ensures rest { KeepsAllBut self.old self.new }
     {
         let Some(file) = file_in(&tables.slots, who, slot) else {
@@ -149,7 +150,8 @@ impl OpenOperation {
     fn note(&mut self, names: &NamesHad, tables: &Tables, item: &LogItem)
         requires { vec_len self.old.tries < vec_capacity self.old.tries }
         ensures row { (row : ℕ → ℕ) → AreTries self.old.tries.items row → AreTries self.new.tries.items (row_after row (disk_at tables.now) item.now) }
-        ensures held_off { (had : List (Name × ℕ)) (row : ℕ → ℕ) → IsNamesHad names.now had → AreListed had (disk_at tables.now) → AreTries self.old.tries.items row → self.new.held_off ≡ (self.old.held_off || is_64th had (disk_at tables.now) (the_root self.old.request) row item.now) }
+        ensures held_off { (had : List (Name × ℕ)) (row : ℕ → ℕ) → IsNamesHad names.now had → AreListed had (disk_at tables.now)
+            → AreTries self.old.tries.items row → self.new.held_off ≡ (self.old.held_off || is_64th had (disk_at tables.now) (the_root self.old.request) row item.now) }
         ensures failed { self.new.failed ≡ (self.old.failed || the_fault item.now) }
         ensures rest { KeepsGiven self.old self.new }
     {
@@ -177,7 +179,8 @@ impl OpenOperation {
         tables: &Tables,
         item: &LogItem,
     ) -> Result<(), NoMemory>
-        ensures ok { OnOk result ((s : Summary) (o : Operation) → Holds s.had s.state.disk self.old o → AreListed s.had s.state.disk → IsAfter names.now tables.now s item.now → Holds (summed s item.now).had (applied s.state.disk item.now) self.new (goes_on s.had s.state.disk item.now o)) }
+        ensures ok { OnOk result ((s : Summary) (o : Operation) → Holds s.had s.state.disk self.old o
+            → AreListed s.had s.state.disk → IsAfter names.now tables.now s item.now → Holds (summed s item.now).had (applied s.state.disk item.now) self.new (goes_on s.had s.state.disk item.now o)) }
         ensures err { OnErr result ((had : List (Name × ℕ)) (d : Disk) (o : Operation) → Holds had d self.old o → Holds had d self.new o) }
         ensures who { self.new.who ≡ self.old.who }
     {

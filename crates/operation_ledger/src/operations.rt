@@ -1,4 +1,4 @@
-ghost use Rattle.std.specs.Prelude.{◌≡◌, ◌<◌, ◌∷◌, IfOk, OnOk, OnErr, Some, None, is_none, if◌then◌else◌};
+ghost use Rattle.std.specs.Prelude.{◌≡◌, ◌≤◌, ◌<◌, ◌∷◌, IfOk, OnOk, OnErr, Some, None, is_none, if◌then◌else◌};
 ghost use Rattle.std.specs.Vec.{vec_len, vec_capacity};
 ghost use Rattle.cache_types.specs.Seats.{same_seat};
 ghost use Rattle.cache_types.specs.declared.seat.Who.{Who};
@@ -190,7 +190,8 @@ impl Operations {
         who: Who,
         item: &LogItem,
     ) -> Result<(), NoMemory>
-        ensures ok { OnOk result ((s : Summary) → AreOperations self.old s → the_seat item.now ≡ Some who → IsAfter names.now tables.now s item.now → GoesOn who self.old.held.items self.new.held.items s item.now) }
+        ensures ok { OnOk result ((s : Summary) → AreOperations self.old s → the_seat item.now ≡ Some who
+            → IsAfter names.now tables.now s item.now → GoesOn who self.old.held.items self.new.held.items s item.now) }
         ensures err { OnErr result ((s : Summary) → AreOperations self.old s → AreOperations self.new s) }
     {
         let place = place_of(&self.held, who);

@@ -1,9 +1,9 @@
-use crate::calls::{Call, K1, ME};
 use cache_types::NoMemory;
 use memory_files::MemFiles;
 use report_text::Status;
 use std::alloc::Global;
 use std::test::Fail;
+use test_calls::{Call, K1_TEXT, ME};
 
 /// What `key` prints is the SHA-1 of the driver's blob and the content, by `sha1sum`.
 #[test]
@@ -44,10 +44,13 @@ fn key_reads_no_settings(rt: HostRuntime) -> Result<(), Fail> {
     Ok(())
 }
 
-/// Whether a lookup ends as it has to after a put of `abc` under `K1`.
+/// Whether a lookup ends as it has to after a put of `abc` under `K1_TEXT`.
 fn ends_after_put(alloc: Global, get: &Call<'_>) -> Result<bool, NoMemory> {
     let mut files = MemFiles::new(alloc, ME)?;
-    let put = Call::ends(&["put", "--layout=folder", "--root=store", K1], Status::Ok);
+    let put = Call::ends(
+        &["put", "--layout=folder", "--root=store", K1_TEXT],
+        Status::Ok,
+    );
     let stored = put.on(b"abc").prints(b"stored\n").take(alloc, &mut files)?;
     Ok(get.take(alloc, &mut files)? && stored)
 }
@@ -57,7 +60,7 @@ fn ends_after_put(alloc: Global, get: &Call<'_>) -> Result<bool, NoMemory> {
 fn words_that_are_keys(rt: HostRuntime) -> Result<(), Fail> {
     let rows: [(&[&str], Status, &[u8]); 6] = [
         (
-            &["get", "--layout=folder", "--root=store", K1],
+            &["get", "--layout=folder", "--root=store", K1_TEXT],
             Status::Ok,
             b"abc",
         ),

@@ -1,17 +1,9 @@
-use crate::calls::{Call, K1, K2, ME};
-use cache_types::{Key, Name, NoMemory, Request};
+use cache_types::{Name, NoMemory, Request};
 use file_log::LogItem;
 use memory_files::MemFiles;
 use report_text::Status;
 use std::test::Fail;
-
-/// The key that `K1` spells.
-const KEY: Key = Key {
-    bytes: [
-        0xa9, 0x99, 0x3e, 0x36, 0x47, 0x06, 0x81, 0x6a, 0xba, 0x3e, 0x25, 0x71, 0x78, 0x50, 0xc2,
-        0x6c, 0x9c, 0xd0, 0xd8, 0x9d,
-    ],
-};
+use test_calls::{Call, K1, K1_TEXT, K2_TEXT, ME};
 
 /// The entry of `abc` for driver `d`, GPU `g` and flags 258, lowest byte first. The CRC-32 of `abc` is
 /// 0x352441c2.
@@ -20,7 +12,8 @@ const WITH_FLAGS: [u8; 29] = [
     b'a', b'b', b'c',
 ];
 
-/// The entry of `abc` for driver `d` and GPU `g`, whose sources have the keys `K1` and `K2`: type 1, two keys.
+/// The entry of `abc` for driver `d` and GPU `g`, whose sources have the keys that `K1_TEXT` and `K2_TEXT` spell:
+/// type 1, two keys.
 const WITH_KEYS: [u8; 73] = [
     1, b'd', 0, b'g', 0, 8, 0, 0, 0, 0, 0, 0, 0, 0, 1, 0, 0, 0, 2, 0, 0, 0, 0xa9, 0x99, 0x3e, 0x36,
     0x47, 0x06, 0x81, 0x6a, 0xba, 0x3e, 0x25, 0x71, 0x78, 0x50, 0xc2, 0x6c, 0x9c, 0xd0, 0xd8, 0x9d,
@@ -37,7 +30,7 @@ const META: &str =
 
 /// Whether the entry of the key has these bytes.
 fn has_entry(files: &MemFiles, bytes: &[u8]) -> Result<bool, NoMemory> {
-    let entry = files.world().file(&Name::Entry { root: 0, key: KEY })?;
+    let entry = files.world().file(&Name::Entry { root: 0, key: K1 })?;
     Ok(entry.is_some_and(|entry| entry.as_slice() == bytes))
 }
 
@@ -67,13 +60,13 @@ fn options_in_both_forms(rt: HostRuntime) -> Result<(), Fail> {
                 "--gpu=g",
                 "--layout=folder",
                 "--root=r",
-                K1,
+                K1_TEXT,
             ],
             &WITH_FLAGS,
         ),
         (
             &[
-                "put", K1, "--root", "r", "--layout", "folder", "--gpu", "g", "--id", "d",
+                "put", K1_TEXT, "--root", "r", "--layout", "folder", "--gpu", "g", "--id", "d",
                 "--flags", "258",
             ],
             &WITH_FLAGS,
@@ -87,7 +80,7 @@ fn options_in_both_forms(rt: HostRuntime) -> Result<(), Fail> {
                 "--layout=folder",
                 "--root=r",
                 "--",
-                K1,
+                K1_TEXT,
             ],
             &WITH_KEYS,
         ),
@@ -100,7 +93,7 @@ fn options_in_both_forms(rt: HostRuntime) -> Result<(), Fail> {
                 "--gpu=g",
                 "--layout=folder",
                 "--root=r",
-                K1,
+                K1_TEXT,
             ],
             &WITH_KEYS,
         ),
@@ -114,18 +107,25 @@ fn options_in_both_forms(rt: HostRuntime) -> Result<(), Fail> {
     Ok(())
 }
 
-/// A text of `--meta` that is no key is told as KEY is, also an empty one.
+/// A text of `--meta` that is no key is told as K1 is, also an empty one.
 #[test]
 fn texts_of_meta_that_are_no_keys(rt: HostRuntime) -> Result<(), Fail> {
-    let rows = ["xyz", ",", K2];
+    let rows = ["xyz", ",", K2_TEXT];
     for text in rows {
-        let words = ["put", "--layout=folder", "--root=r", "--meta", text, K1];
-        let wanted = if text == K2 {
+        let words = [
+            "put",
+            "--layout=folder",
+            "--root=r",
+            "--meta",
+            text,
+            K1_TEXT,
+        ];
+        let wanted = if text == K2_TEXT {
             Status::Ok
         } else {
             Status::BadKey
         };
-        let printed: &[u8] = if text == K2 { b"stored\n" } else { b"" };
+        let printed: &[u8] = if text == K2_TEXT { b"stored\n" } else { b"" };
         assert!(rt;
             Call::ends(&words, wanted)
                 .prints(printed)
@@ -143,11 +143,15 @@ fn limits_of_puts(rt: HostRuntime) -> Result<(), Fail> {
     let size = ("MESA_SHADER_CACHE_MAX_SIZE", "64k");
     let (layout, root) = ("--layout=folder", "--root=r");
     let rows: [(&[&str], &[(&str, &str)], u64); 4] = [
-        (&["put", layout, root, K1], &[], 1_073_741_824),
-        (&["put", layout, root, K1], &[size], 65_536),
-        (&["put", layout, root, "--limit=1000", K1], &[size], 1_000),
+        (&["put", layout, root, K1_TEXT], &[], 1_073_741_824),
+        (&["put", layout, root, K1_TEXT], &[size], 65_536),
         (
-            &["put", layout, root, "--limit", "1099511627776", K1],
+            &["put", layout, root, "--limit=1000", K1_TEXT],
+            &[size],
+            1_000,
+        ),
+        (
+            &["put", layout, root, "--limit", "1099511627776", K1_TEXT],
             &[],
             1_099_511_627_776,
         ),

@@ -1,6 +1,6 @@
-use crate::calls::{Call, K1};
 use report_text::Status;
 use std::test::Fail;
+use test_calls::{Call, K1_TEXT};
 
 const NINE: &[(&str, &str)] = &[
     ("HOME", "/home/u"),
@@ -13,25 +13,25 @@ fn words_without_a_reading(rt: HostRuntime) -> Result<(), Fail> {
     let rows: [&[&str]; 22] = [
         &[],
         &[""],
-        &["got", K1],
+        &["got", K1_TEXT],
         &["get"],
-        &["get", K1, K1],
-        &["put", "-x", K1],
-        &["put", "-", K1],
-        &["get", "--id=a", "--id=b", K1],
-        &["get", "--id=", "--gpu=g", K1],
-        &["get", "--root", "-a", K1],
-        &["get", "--layout=folders", K1],
-        &["get", "--limit=5", K1],
-        &["get", "--meta", K1, K1],
-        &["put", "--flags=x", K1],
-        &["put", "--limit=1099511627777", K1],
-        &["key", K1],
+        &["get", K1_TEXT, K1_TEXT],
+        &["put", "-x", K1_TEXT],
+        &["put", "-", K1_TEXT],
+        &["get", "--id=a", "--id=b", K1_TEXT],
+        &["get", "--id=", "--gpu=g", K1_TEXT],
+        &["get", "--root", "-a", K1_TEXT],
+        &["get", "--layout=folders", K1_TEXT],
+        &["get", "--limit=5", K1_TEXT],
+        &["get", "--meta", K1_TEXT, K1_TEXT],
+        &["put", "--flags=x", K1_TEXT],
+        &["put", "--limit=1099511627777", K1_TEXT],
+        &["key", K1_TEXT],
         &["key", "--root=store"],
         &["settings", "--root=store"],
-        &["settings", K1],
+        &["settings", K1_TEXT],
         &["--help"],
-        &["mark", K1],
+        &["mark", K1_TEXT],
         &["list"],
     ];
     for words in rows {
@@ -56,11 +56,11 @@ fn no_option_behind_two_dashes(rt: HostRuntime) -> Result<(), Fail> {
 fn the_first_refusal_is_told(rt: HostRuntime) -> Result<(), Fail> {
     let off = ("MESA_SHADER_CACHE_DISABLE", "yes");
     let rows: [(&[&str], &[(&str, &str)], Status); 13] = [
-        (&["get", "--id=", K1], &[off], Status::Usage),
-        (&["get", K1], &[off], Status::Off),
-        (&["put", "--root=store", K1], &[off], Status::Off),
+        (&["get", "--id=", K1_TEXT], &[off], Status::Usage),
+        (&["get", K1_TEXT], &[off], Status::Off),
+        (&["put", "--root=store", K1_TEXT], &[off], Status::Off),
         (&["settings"], &[off], Status::Off),
-        (&["get", K1], &[], Status::NoRoot),
+        (&["get", K1_TEXT], &[], Status::NoRoot),
         (&["get", "xyz"], &[], Status::NoRoot),
         (&["settings"], &[], Status::NoRoot),
         (&["settings"], NINE, Status::TooManyReadOnly(9)),
@@ -70,11 +70,11 @@ fn the_first_refusal_is_told(rt: HostRuntime) -> Result<(), Fail> {
             Status::TooManyReadOnly(9),
         ),
         (
-            &["put", "--layout=foz", "--root=DIR", K1],
+            &["put", "--layout=foz", "--root=DIR", K1_TEXT],
             &[],
             Status::NotBuilt,
         ),
-        (&["get", "--root=DIR", K1], &[], Status::NotBuilt),
+        (&["get", "--root=DIR", K1_TEXT], &[], Status::NotBuilt),
         (
             &["get", "--layout=database", "--root=DIR", "xyz"],
             &[],

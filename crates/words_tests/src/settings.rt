@@ -1,9 +1,9 @@
-use crate::calls::{Call, K1, ME, vars_of, words_of};
 use cache_main::plan_of;
 use cache_types::Text;
 use memory_files::MemFiles;
 use report_text::Status;
 use std::test::Fail;
+use test_calls::{Call, K1_TEXT, ME, vars_of, words_of};
 
 const HOME: (&str, &str) = ("HOME", "/home/u");
 
@@ -43,16 +43,16 @@ fn a_store_that_variables_name(rt: HostRuntime) -> Result<(), Fail> {
     let folder = ("MESA_DISK_CACHE_MULTI_FILE", "yes");
     let vars = &[HOME, folder];
     let mut files = MemFiles::new(alloc, ME)?;
-    let put = Call::ends(&["put", K1], Status::Ok)
+    let put = Call::ends(&["put", K1_TEXT], Status::Ok)
         .under(vars)
         .on(b"abc")
         .prints(b"stored\n");
     assert!(rt; put.take(alloc, &mut files)?);
-    let get = Call::ends(&["get", K1], Status::Ok)
+    let get = Call::ends(&["get", K1_TEXT], Status::Ok)
         .under(vars)
         .prints(b"abc");
     assert!(rt; get.take(alloc, &mut files)?);
-    let foz = Call::ends(&["get", "--layout=foz", K1], Status::NotBuilt).under(vars);
+    let foz = Call::ends(&["get", "--layout=foz", K1_TEXT], Status::NotBuilt).under(vars);
     assert!(rt; foz.take(alloc, &mut files)?);
     Ok(())
 }
@@ -64,9 +64,9 @@ fn paths_of_commands(rt: HostRuntime) -> Result<(), Fail> {
     let list = ("MESA_DISK_CACHE_READ_ONLY_FOZ_DBS_DYNAMIC_LIST", "/l");
     let vars = vars_of(alloc, &[HOME, list])?;
     let rows: [(&[&str], Option<&str>, Option<&str>); 4] = [
-        (&["get", "--root=store", K1], Some("store"), Some("/l")),
+        (&["get", "--root=store", K1_TEXT], Some("store"), Some("/l")),
         (
-            &["get", K1],
+            &["get", K1_TEXT],
             Some("/home/u/.cache/mesa_shader_cache_db"),
             Some("/l"),
         ),
@@ -86,7 +86,7 @@ fn paths_of_commands(rt: HostRuntime) -> Result<(), Fail> {
             assert_eq!(rt; paths.list.as_ref().map(Text::as_str), list);
         }
     }
-    let refused = plan_of(alloc, &words_of(alloc, &["get", K1])?, &[]);
+    let refused = plan_of(alloc, &words_of(alloc, &["get", K1_TEXT])?, &[]);
     assert!(rt; matches!(refused, Err(Status::NoRoot)));
     let refused = plan_of(alloc, &words_of(alloc, &["get"])?, &vars);
     assert!(rt; matches!(refused, Err(Status::Usage)));

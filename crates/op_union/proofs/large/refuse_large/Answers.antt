@@ -1,4 +1,5 @@
 use Rattle.std.proofs.Common.{of_calls}
+use Rattle.folder_store.proofs.Keeping.{idle_in}
 use Rattle.op_union.proofs.Refusing.{refused_large}
 use Rattle.op_union.proofs.large.refuse_large.Goals as goal
 
@@ -8,4 +9,5 @@ returns-clause-refused g c =
     let a = c.args in
     let old = a.files.now in
     let new = c.operate.new.files in
-    refused_large (f.me old) a.request a.n (f.history old) (f.history new) (f.faults old) (f.faults new) c.operate.result _ (λ m made. search of_calls) c.operate.ensures.ended
+    let idle = idle_in (f.me old) (f.seen old) (f.history old) c.requires.idle c.known.ensures in
+    refused_large (f.me old) a.request a.n (f.history old) (f.history new) (f.faults old) (f.faults new) c.operate.result c.requires.large idle _ (λ m made. search of_calls) c.operate.ensures.ended

@@ -1,4 +1,4 @@
-use Rattle.std.proofs.Common.{◌≡◌, length, is_some, is_none, Some, ◌&&◌}
+use Rattle.std.proofs.Common.{◌≡◌, length, Some}
 use Rattle.std.specs.List.{list_any}
 use Rattle.rule_checks.specs.Tests.{same_blob}
 use Rattle.operation_ledger.proofs.given.gave_blob.Given as goal

@@ -1,6 +1,5 @@
-use Rattle.std.proofs.Common.{◌≡◌, length, is_some, is_none, Some, ◌&&◌}
+use Rattle.std.proofs.Common.{◌≡◌, length, is_none}
 use Rattle.std.specs.List.{list_any}
-use Rattle.rule_checks.specs.Tests.{same_blob}
 use Rattle.operation_ledger.proofs.given.gave_none.Given as goal
 
 abbrev pub invariant-loop-rest : goal.invariant-loop-rest

@@ -1,4 +1,4 @@
-use Rattle.std.proofs.Common.{◌≡◌, ap, ◌∙◌, ◌&&◌, List}
+use Rattle.std.proofs.Common.{ap, ◌∙◌, ◌&&◌, List}
 use Rattle.std.specs.List.{list_any}
 use Rattle.cache_types.specs.declared.name.Name.{Name}
 use Rattle.folder_rules.specs.Kinds.{is_lock_of}

@@ -1,4 +1,4 @@
-use Rattle.std.proofs.Common.{◌≡◌, ◌+◌, ◌-◌, length}
+use Rattle.std.proofs.Common.{◌+◌, ◌-◌, length}
 use Rattle.operation_ledger.specs.NameLists.{HaveSame}
 use Rattle.operation_ledger.proofs.names_had.reach.Given as goal
 

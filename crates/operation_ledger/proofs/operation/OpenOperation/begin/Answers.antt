@@ -1,7 +1,5 @@
-use Rattle.std.proofs.Common.{◌≡◌, ◌∷◌, [], refl, rules, ap, ◌∙◌, Option, List, ℕ}
-use Rattle.file_log.specs.Disk.{bytes_in}
+use Rattle.std.proofs.Common.{◌≡◌, ◌∷◌, [], refl, rules}
 use Rattle.world_tables.specs.Tables.{disk_at}
-use Rattle.operation_ledger.specs.Entries.{read_by}
 use Rattle.operation_ledger.proofs.Going.{begun_holds}
 use Rattle.operation_ledger.proofs.operation.OpenOperation.begin.Goals as goal
 

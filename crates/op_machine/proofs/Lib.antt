@@ -1,0 +1,8 @@
+pub mod GetAlong
+pub mod PutAlong
+pub mod Known
+pub mod Slots
+pub mod Starting
+pub mod Standing
+pub mod Orderly
+pub mod WholeOperation

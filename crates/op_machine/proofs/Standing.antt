@@ -1,0 +1,354 @@
+-- Where a seat stands between two items of the log among seats that keep the rules, and how its own items and those of others lead on.
+use Rattle.std.proofs.Common.{◌≡◌, ◌<◌, ◌+◌, inl, inr, ℕ, zero, suc, true, false, nat_eq, List, [], ◌∷◌, ◌++◌, length, take, get_or, Some, refl, sym, ap, ◌∙◌, subst, append_assoc, arith}
+use Rattle.cache_types.specs.declared.answer.Answer.{Answer}
+use Rattle.cache_types.specs.declared.answer.Answer.TheVariants as answers
+use Rattle.cache_types.specs.declared.request.Request.{Request}
+use Rattle.cache_types.specs.declared.seat.Who.{Who}
+use Rattle.file_log.specs.declared.call.Call.{Call}
+use Rattle.file_log.specs.declared.call.Call.TheVariants as calls
+use Rattle.file_log.specs.declared.item.LogItem.{LogItem}
+use Rattle.file_log.specs.declared.item.LogItem.TheVariants as items
+use Rattle.file_log.specs.declared.reply.Reply.{Reply}
+use Rattle.file_log.specs.declared.reply.Reply.TheVariants as replies
+use Rattle.file_log.specs.declared.ticket.Ticket.{Ticket}
+use Rattle.file_log.specs.Along.{All}
+use Rattle.file_log.specs.Exchange.{Answers, Makes, items_before}
+use Rattle.file_log.specs.Fits.{RequestFits}
+use Rattle.file_log.specs.Legal.{Legal}
+use Rattle.file_log.specs.Log.{History, with_items, is_own, is_stop}
+use Rattle.file_log.specs.Seat.{MayCall, course_of}
+use Rattle.file_log.specs.State.{state_of}
+use Rattle.file_model.specs.declared.step.Progress.{Progress}
+use Rattle.file_model.specs.declared.step.Progress.TheVariants as progresses
+use Rattle.file_model.specs.Seeing.{seen_of}
+use Rattle.file_model.specs.Steps.{step_items, StepFits, IsPlace}
+use Rattle.files_api.specs.declared.machine.Step.TheVariants.{Ask, Done}
+use Rattle.files_api.specs.Drive.{IsEndOf}
+use Rattle.folder_rules.specs.Changes.{with_item}
+use Rattle.folder_rules.specs.Places.{past}
+use Rattle.folder_rules.specs.Rules.{KeepsRules}
+use Rattle.folder_changes.proofs.Earning.{earns}
+use Rattle.folder_changes.proofs.Ordering.{stays_in_order}
+use Rattle.folder_store.proofs.Keeping.{CanFollow, IsOut, out_other, out_ended, IsIn, in_then, within_other, begin_rules, begun}
+use Rattle.op_machine.specs.declared.op.Op.{Op}
+use Rattle.op_machine.specs.declared.op.Op.TheVariants.{Refuse}
+use Rattle.op_machine.specs.Machine.{asks, asked, Fed, slots, hurt}
+use Rattle.op_machine.specs.Places.{Where, Leads}
+use Rattle.op_machine.specs.Requests.{IsBuilt, IsOpOf}
+use Rattle.op_machine.proofs.Known as known
+use Rattle.op_machine.proofs.Starting.{starts, starts_empty}
+use Rattle.op_machine.proofs.Slots.{HasSlots, HasNone, HasThose, other_keeps, none_other, none_still, byte_keeps, begun_has, machine_may, machine_done, machine_goes}
+use Rattle.std.proofs.Common.{◌⊎◌}
+use Rattle.std.proofs.Math.Seq.{take-length}
+use Rattle.std.proofs.lemmas.Bool.{ne_eqb}
+use Rattle.std.proofs.lemmas.List.Sums.{fold-append}
+use Rattle.std.specs.Prelude.{fold}
+use Rattle.file_log.specs.Exchange.{MayGet, MayNumber, MayList, items_done, byte_items}
+use Rattle.file_log.specs.Seat.{Course, course_after}
+use Rattle.file_log.proofs.All.{seat_self}
+use Rattle.file_model.specs.Steps.{IsLast, done_items}
+use Rattle.world_tables.proofs.Runs.{byte_items-next}
+use Rattle.folder_rules.proofs.Histories.{goes_by}
+use Rattle.folder_store.proofs.Keeping.{follow, still_rules, within_inner}
+
+module _ (me : Who) where
+  -- so many items of a call were made, whatever its reply will be and whatever it makes until then
+  pub record IsMaking (request : Request) (m : Op) (call : Call) (done : ℕ) (h : History) : Type 0 where
+    pub asks_so : asks m ≡ Ask call
+    pub goes : (reply : Reply) (made rest : List LogItem) → Answers true call reply → Makes me true call reply made → made ≡ items_before me call done ++ rest → known.During me request m call reply rest h
+
+  -- in an operation of the request
+  pub record IsWithin (n : Op) (call : Call) (done : ℕ) (h : History) : Type 0 where
+    pub request : Request
+    pub m : Op
+    pub asked_is : asked m ≡ n
+    pub inside : IsIn me request h
+    pub making : IsMaking request m call done h
+    pub place : IsPlace call done
+    pub seen : HasThose me m h
+
+  -- what its machine gave may end it
+  pub record IsEnding (given : Answer) (h : History) : Type 0 where
+    pub request : Request
+    pub m : Op
+    pub gives : asks m ≡ Done given
+    pub knows : known.Between me request m h
+    pub seen : HasSlots me (λ at. false) true h
+
+  -- the request that was begun can be, and the seat is in its operation
+  pub record HasBegun (request : Request) (h : History) : Type 0 where
+    pub fits : RequestFits request
+    pub inside : IsIn me request h
+    pub seen : HasSlots me (λ at. false) false h
+
+  -- the seat stands there
+  abbrev pub Stands : Where → History → Type 0
+  Stands Where.Outside h = IsOut me h × HasNone me h
+  Stands (Where.Begun request) h = HasBegun request h
+  Stands (Where.Between m) h = (request : Request) × known.Between me request m h × HasThose me m h
+  Stands (Where.Within n call done) h = IsWithin n call done h
+  Stands (Where.Ending given) h = IsEnding given h
+
+  -- ---- a Begin
+
+  -- before any item it is in no operation
+  pub out_at_first : Stands Where.Outside (past [])
+  out_at_first = (record { order = stays_in_order.0; idle = refl }, λ at. refl)
+
+  -- its Begin keeps the rules
+  pub begins : (request : Request) (h : History) → Stands Where.Outside h → CanFollow h (items.Begin me request) → KeepsRules h (items.Begin me request) × Stands (Where.Begun request) (with_item h (items.Begin me request))
+  begins request h out legal = (begin_rules me request h out.0, record { fits = legal.1; inside = begun me request h out.0 legal; seen = begun_has me request h out.1 })
+
+  -- ---- its machine
+
+  -- the machine that was made for the request
+  pub gets_machine : (request : Request) (m : Op) (h : History) → IsBuilt request → IsOpOf request m → Stands (Where.Begun request) h → Stands (Where.Between m) h
+  gets_machine request m h built new b = (request, starts me request m h built new b.fits b.inside, starts_empty me request m h new b.seen)
+
+  -- there was no memory for one
+  pub gets_none : (request : Request) (h : History) → Stands (Where.Begun request) h → Stands (Where.Ending answers.NoMemory) h
+  gets_none request h b = record {
+    request = request;
+    m = Refuse (record { answer = Some answers.NoMemory });
+    gives = refl;
+    knows = known.given_starts me request (record { answer = Some answers.NoMemory }) h b.inside (λ at i. (earns at me).no_memory request i);
+    seen = record { filled = b.seen.filled; inside = b.seen.inside; covers = λ e. refl };
+  }
+
+  -- ---- its calls
+
+  none_before : (call : Call) → items_before me call 0 ≡ []
+  none_before (calls.WriteAt slot at bytes) = refl
+  none_before call = refl
+
+  at_first : (call : Call) → IsPlace call 0
+  at_first (calls.WriteAt slot at []) = inl refl
+  at_first (calls.WriteAt slot at (v ∷ vs)) = inr (omega arith)
+  at_first call = tt
+
+  -- it asks for a call, of which nothing is made yet
+  pub asks_call : (m : Op) (call : Call) (h : History) → asks m ≡ Ask call → Stands (Where.Between m) h → Stands (Where.Within (asked m) call 0) h
+  asks_call m call h e b = record {
+    request = b.0;
+    m = m;
+    asked_is = refl;
+    inside = known.is_in me b.0 m h b.1;
+    making = record {
+      asks_so = e;
+      goes = λ reply made rest fits makes is.
+          let all : made ≡ rest = is ∙ ap (λ (l : List LogItem). l ++ rest) (none_before call) in
+          subst (λ (l : List LogItem). known.During me b.0 m call reply l h) all ((known.inductive me b.0).enters m call reply made h b.1 e fits makes);
+    };
+    place = at_first call;
+    seen = b.2;
+  }
+
+  -- it gives its answer
+  pub gives_answer : (m : Op) (given : Answer) (h : History) → asks m ≡ Done given → Stands (Where.Between m) h → Stands (Where.Ending given) h
+  gives_answer m given h e b = record { request = b.0; m = m; gives = e; knows = b.1; seen = machine_done me m given h e b.2 }
+
+  -- ---- one item of a call
+
+  -- the items that a call with a reply still makes keep the rules, one after another
+  go_over : (request : Request) (m : Op) (call : Call) (reply : Reply) (news : List LogItem) (h : History) → known.During me request m call reply news h → All with_item CanFollow h news → All with_item KeepsRules h news × known.During me request m call reply [] (fold with_item h news)
+  go_over request m call reply [] h d legal = (tt, d)
+  go_over request m call reply (x ∷ news) h d legal =
+      let g = (known.inductive me request).steps m call reply x news h d legal.0 in
+      let on = go_over request m call reply news (with_item h x) g.1 legal.1 in
+      ((g.0, on.0), on.1)
+
+  -- what a call that is not a write makes before its reply
+  plain_missing : (call : Call) (done : ℕ) → Answers true call replies.Missing → items_before me call done ≡ []
+  plain_missing (calls.OpenOld slot name) done fits = refl
+  plain_missing call done fits = absurd fits
+
+  plain_held : (call : Call) (done : ℕ) → Answers true call replies.Held → items_before me call done ≡ []
+  plain_held (calls.TryLock slot) done fits = refl
+  plain_held call done fits = absurd fits
+
+  plain_got : (call : Call) (done n : ℕ) → MayGet call n → items_before me call done ≡ []
+  plain_got (calls.ReadAt slot at k) done n fits = refl
+  plain_got call done n fits = absurd fits
+
+  plain_number : (call : Call) (done : ℕ) → MayNumber call → items_before me call done ≡ []
+  plain_number (calls.Length slot) done fits = refl
+  plain_number calls.Now done fits = refl
+  plain_number call done fits = absurd fits
+
+  plain_keys : (call : Call) (done : ℕ) → MayList call → items_before me call done ≡ []
+  plain_keys (calls.ListFolder root byte) done fits = refl
+  plain_keys call done fits = absurd fits
+
+  byte : ℕ → ℕ → List ℕ → ℕ → LogItem
+  byte slot at bytes done = items.Byte me slot (at + done) (get_or bytes done 0)
+
+  -- the last byte of a write, or the item of an empty one
+  last_made : (slot at : ℕ) (bytes : List ℕ) (done : ℕ) → (bytes ≡ []) ⊎ (done + 1 ≡ length bytes) → items_before me (calls.WriteAt slot at bytes) done ++ done_items me (calls.WriteAt slot at bytes) done ≡ items_done me (calls.WriteAt slot at bytes)
+  last_made slot at bytes done (inl empty) = subst (λ (b : List ℕ). items_before me (calls.WriteAt slot at b) done ++ done_items me (calls.WriteAt slot at b) done ≡ items_done me (calls.WriteAt slot at b)) (sym empty) (none done)
+    where
+      none : (k : ℕ) → items_before me (calls.WriteAt slot at []) k ++ done_items me (calls.WriteAt slot at []) k ≡ items_done me (calls.WriteAt slot at [])
+      none zero = refl
+      none (suc k) = refl
+  last_made slot at bytes done (inr last) =
+      let filled : nat_eq (length bytes) 0 ≡ false = ne_eqb (length bytes) 0 (λ e. absurd (omega (arith, e, last))) in
+      let next = byte_items-next me slot at done (length bytes) bytes (omega (arith, last)) (sym last) in
+      let whole : byte_items me slot at (take (length bytes) bytes) ≡ byte_items me slot at bytes = ap (byte_items me slot at) (take-length bytes) in
+      rw filled (sym next ∙ whole)
+
+  made_done : (call : Call) (done : ℕ) → IsLast call done → items_before me call done ++ done_items me call done ≡ items_done me call
+  made_done (calls.WriteAt slot at bytes) done last = last_made slot at bytes done last
+  made_done (calls.OpenOld slot name) done last = refl
+  made_done (calls.OpenNew slot name) done last = refl
+  made_done call done last = refl
+
+  -- a call that is answered so has made these items
+  made_all : (call : Call) (done : ℕ) (reply : Reply) → StepFits (progresses.Reply reply) true call done → Makes me true call reply (items_before me call done ++ step_items (progresses.Reply reply) me true call done)
+  made_all call done replies.Done fits = made_done call done fits.1
+  made_all call done replies.Failed fits = (done, refl)
+  made_all call done replies.NoMemory fits = (done, refl)
+  made_all call done replies.Missing fits = ap (λ (l : List LogItem). l ++ items.Did me call replies.Missing ∷ []) (plain_missing call done fits)
+  made_all call done replies.Held fits = ap (λ (l : List LogItem). l ++ items.Did me call replies.Held ∷ []) (plain_held call done fits)
+  made_all call done (replies.Got bytes) fits = ap (λ (l : List LogItem). l ++ items.Did me call (replies.Got bytes) ∷ []) (plain_got call done (length bytes) fits)
+  made_all call done (replies.Number n) fits = ap (λ (l : List LogItem). l ++ items.Did me call (replies.Number n) ∷ []) (plain_number call done fits)
+  made_all call done (replies.Keys keys) fits = ap (λ (l : List LogItem). l ++ items.Did me call (replies.Keys keys) ∷ []) (plain_keys call done fits)
+
+  answers_so : (call : Call) (done : ℕ) (reply : Reply) → StepFits (progresses.Reply reply) true call done → Answers true call reply
+  answers_so call done replies.Done fits = fits.0
+  answers_so call done reply fits = fits
+
+  -- what a step did: its items keep the rules, and the seat stands at the place that it leads to
+  abbrev pub Steps : Op → Call → ℕ → Progress → Where → History → Type 0
+  Steps n call done progress place h =
+      All with_item KeepsRules h (step_items progress me true call done) × Stands place (with_items h (step_items progress me true call done))
+
+  -- the call is answered
+  answered : (n : Op) (call : Call) (done : ℕ) (reply : Reply) (n' : Op) (h : History) → IsWithin n call done h → StepFits (progresses.Reply reply) true call done → Legal (state_of h) (step_items (progresses.Reply reply) me true call done) → Fed n reply n'
+      → Steps n call done (progresses.Reply reply) (Where.Between n') h
+  answered n call done reply n' h w fits legal fed =
+      let news = step_items (progresses.Reply reply) me true call done in
+      let d = w.making.goes reply (items_before me call done ++ news) news (answers_so call done reply fits) (made_all call done reply fits) refl in
+      let g = go_over w.request w.m call reply news h d (follow h news legal) in
+      let fed' : Fed (asked w.m) reply n' = subst (λ (z : Op). Fed z reply n') (sym w.asked_is) fed in
+      let knows = (known.inductive me w.request).leaves w.m n' call reply (fold with_item h news) g.1 fed' in
+      (g.0, (w.request, subst (known.Between me w.request n') (goes_by h news) knows, machine_goes me w.m n' call reply done h w.making.asks_so w.seen fed' (answers_so call done reply fits) legal))
+
+  -- a byte of the write is made, and others are left
+  byte_made : (n : Op) (slot at : ℕ) (bytes : List ℕ) (done : ℕ) (h : History) → IsWithin n (calls.WriteAt slot at bytes) done h → done + 1 < length bytes → CanFollow h (byte slot at bytes done)
+      → KeepsRules h (byte slot at bytes done) × IsWithin n (calls.WriteAt slot at bytes) (done + 1) (with_item h (byte slot at bytes done))
+  unfolding byte
+  byte_made n slot at bytes done h w more legal =
+      let call : Call = calls.WriteAt slot at bytes in
+      let x : LogItem = byte slot at bytes done in
+      let next : items_before me call (done + 1) ≡ items_before me call done ++ x ∷ [] = byte_items-next me slot at done (done + 1) bytes (omega (arith, more)) refl in
+      let apart : (rest : List LogItem) → items_before me call (done + 1) ++ rest ≡ items_before me call done ++ x ∷ rest = λ rest. ap (λ (l : List LogItem). l ++ rest) next ∙ append_assoc (items_before me call done) (x ∷ []) rest in
+      let failed : List LogItem = items.Failed me false ∷ [] in
+      let rules : KeepsRules h x =
+      ((known.inductive me w.request).steps w.m call replies.Failed x failed h (w.making.goes replies.Failed (items_before me call (done + 1) ++ failed) (x ∷ failed) tt (done + 1, refl) (apart failed)) legal).0 in (
+        rules,
+        record {
+          request = w.request;
+          m = w.m;
+          asked_is = w.asked_is;
+          inside = in_then me w.request h x w.inside (within_inner me x refl) legal rules;
+          making = record {
+            asks_so = w.making.asks_so;
+            goes = λ reply made rest fits makes e. ((known.inductive me w.request).steps w.m call reply x rest h (w.making.goes reply made (x ∷ rest) fits makes (e ∙ apart rest)) legal).1;
+          };
+          place = inr more;
+          seen = byte_keeps me (slots w.m) (hurt w.m) h slot (at + done) (get_or bytes done 0) w.seen;
+        },
+      )
+
+  place_is : (place : Where) (n : Op) (call : Call) (done : ℕ) (h : History) → Leads n call done progresses.More place → Stands (Where.Within n call (done + 1)) h → Stands place h
+  place_is (Where.Within n' call' done') n call done h leads s =
+      subst (λ (k : ℕ). Stands (Where.Within n' call' k) h) (sym leads.2) (subst (λ (c : Call). Stands (Where.Within n' c (done + 1)) h) (sym leads.1) (subst (λ (m : Op). Stands (Where.Within m call (done + 1)) h) (sym leads.0) s))
+  place_is place n call done h leads s = absurd leads
+
+  goes_more : (n : Op) (call : Call) (done : ℕ) (place : Where) (h : History) → Stands (Where.Within n call done) h → StepFits progresses.More true call done → Legal (state_of h) (step_items progresses.More me true call done) → Leads n call done progresses.More place
+      → Steps n call done progresses.More place h
+  unfolding byte
+  goes_more n (calls.WriteAt slot at bytes) done place h w more legal leads =
+      let made = byte_made n slot at bytes done h w more legal.0 in
+      ((made.0, tt), place_is place n (calls.WriteAt slot at bytes) done (with_item h (byte slot at bytes done)) leads made.1)
+  goes_more n call done place h w more legal leads = absurd more
+
+  -- One step of a call: the item that it makes, if it makes one, keeps the rules.
+  pub steps : (n : Op) (call : Call) (done : ℕ) (progress : Progress) (place : Where) (h : History) → Stands (Where.Within n call done) h → StepFits progress true call done → Legal (state_of h) (step_items progress me true call done) → Leads n call done progress place
+      → Steps n call done progress place h
+  steps n call done progresses.More place h w fits legal leads = goes_more n call done place h w fits legal leads
+  steps n call done (progresses.Reply reply) (Where.Between n') h w fits legal leads = answered n call done reply n' h w fits legal leads
+  steps n call done (progresses.Reply reply) place h w fits legal leads = absurd leads
+
+  -- ---- its End
+
+  pub ends : (given answer : Answer) (h : History) → Stands (Where.Ending given) h → IsEndOf given answer → CanFollow h (items.End me answer) → KeepsRules h (items.End me answer) × Stands Where.Outside (with_item h (items.End me answer))
+  ends given answer h s is legal =
+      let rules = known.ends me s.request s.m given answer h s.knows s.gives is in
+      (rules, (out_ended me h answer (known.is_in me s.request s.m h s.knows).order legal rules, none_still me h (items.End me answer) s.seen.filled refl))
+
+  -- ---- a job that is taken outside of operations
+
+  pub takes : (ticket : Ticket) (h : History) → Stands Where.Outside h → CanFollow h (items.Taken me ticket) → KeepsRules h (items.Taken me ticket) × Stands Where.Outside (with_item h (items.Taken me ticket))
+  takes ticket h out legal =
+      let x : LogItem = items.Taken me ticket in
+      let rules = still_rules h x out.0.order tt (record { names = λ name. refl; files = λ file. refl }) in (
+        rules,
+        (
+          record {
+            order = stays_in_order.1 h x out.0.order legal rules;
+            idle = ap (λ (c : Course). c.inside) (fold-append (course_after me) (record { inside = false; hurt = false }) h.log (x ∷ [])) ∙ rw (seat_self me) out.0.idle;
+          },
+          none_still me h x out.1 refl,
+        ),
+      )
+
+  -- ---- others' items
+
+  -- an item of another that keeps the rules and stops no process of the seat
+  pub stays : (place : Where) (h : History) (x : LogItem) → Stands place h → is_own me x ≡ false → is_stop me.process x ≡ false → CanFollow h x → KeepsRules h x → Stands place (with_item h x)
+  stays Where.Outside h x s other goes legal rules = (out_other me h x s.0 other legal rules, none_other me h x s.1 other goes)
+  stays (Where.Begun request) h x s other goes legal rules = record { fits = s.fits; inside = in_then me request h x s.inside (within_other me x other) legal rules; seen = other_keeps me (λ at. false) false h x s.seen other goes }
+  stays (Where.Between m) h x s other goes legal rules = (s.0, (known.inductive me s.0).between m x h s.1 other goes legal rules, other_keeps me (slots m) (hurt m) h x s.2 other goes)
+  stays (Where.Within n call done) h x s other goes legal rules = record {
+    request = s.request;
+    m = s.m;
+    asked_is = s.asked_is;
+    inside = in_then me s.request h x s.inside (within_other me x other) legal rules;
+    making = record {
+      asks_so = s.making.asks_so;
+      goes = λ reply made rest fits makes e. (known.inductive me s.request).others s.m call reply rest x h (s.making.goes reply made rest fits makes e) other goes legal rules;
+    };
+    place = s.place;
+    seen = other_keeps me (slots s.m) (hurt s.m) h x s.seen other goes;
+  }
+  stays (Where.Ending given) h x s other goes legal rules = record {
+    request = s.request;
+    m = s.m;
+    gives = s.gives;
+    knows = (known.inductive me s.request).between s.m x h s.knows other goes legal rules;
+    seen = other_keeps me (λ at. false) true h x s.seen other goes;
+  }
+
+  -- ---- what it may do there
+
+  -- the call that its machine asked for
+  pub may_call : (n : Op) (call : Call) (done : ℕ) (h : History) → Stands (Where.Within n call done) h → MayCall (seen_of me h) call
+  may_call n call done h s = machine_may me s.m call h s.making.asks_so s.seen
+
+  -- the byte that comes next is one of the write's
+  pub is_place : (n : Op) (call : Call) (done : ℕ) (h : History) → Stands (Where.Within n call done) h → IsPlace call done
+  is_place n call done h s = s.place
+
+  -- its operation is open
+  pub is_inside : (n : Op) (call : Call) (done : ℕ) (h : History) → Stands (Where.Within n call done) h → (course_of me h.log).inside ≡ true
+  is_inside n call done h s = s.seen.inside
+
+  pub ending_inside : (given : Answer) (h : History) → Stands (Where.Ending given) h → (course_of me h.log).inside ≡ true
+  ending_inside given h s = s.seen.inside
+
+  pub begun_inside : (request : Request) (h : History) → Stands (Where.Begun request) h → (course_of me h.log).inside ≡ true
+  begun_inside request h s = s.seen.inside
+
+  -- or none is
+  pub out_idle : (h : History) → Stands Where.Outside h → (course_of me h.log).inside ≡ false
+  out_idle h s = s.0.idle

@@ -1,0 +1,4 @@
+pub mod Given
+pub mod Machine
+pub mod Places
+pub mod Requests

@@ -1,0 +1,69 @@
+ghost use Rattle.std.specs.Prelude.{◌≡◌};
+ghost use Rattle.file_log.specs.Seat.{IsIdle};
+
+use crate::entries::ME;
+use crate::words::{vars_of, words_of};
+use cache_main::run;
+use cache_types::{Bytes, NoMemory};
+use files_api::Files;
+use memory_files::{MemFiles, MemSink, MemSource};
+use report_text::Status;
+use std::alloc::Global;
+
+/// The words and variables of a call, what its source has, and how it has to end.
+#[derive(Clone, Copy)]
+pub struct Call<'a> {
+    pub words: &'a [&'a str],
+    pub vars: &'a [(&'a str, &'a str)],
+    pub input: &'a [u8],
+    pub status: Status,
+    pub printed: &'a [u8],
+}
+
+impl<'a> Call<'a> {
+    /// A call without variables and input that ends in this status and prints nothing.
+    pub fn ends(words: &'a [&'a str], status: Status) -> Call<'a> {
+        Call {
+            words,
+            vars: &[],
+            input: &[],
+            status,
+            printed: &[],
+        }
+    }
+
+    /// The same call under these variables.
+    pub fn under(self, vars: &'a [(&'a str, &'a str)]) -> Call<'a> {
+        Call { vars, ..self }
+    }
+
+    /// The same call with this input.
+    pub fn on(self, input: &'a [u8]) -> Call<'a> {
+        Call { input, ..self }
+    }
+
+    /// The same call, which prints this.
+    pub fn prints(self, printed: &'a [u8]) -> Call<'a> {
+        Call { printed, ..self }
+    }
+
+    /// Makes the call, and whether it ended as it has to.
+    pub fn take<F: Files>(&self, alloc: Global, files: &mut F) -> Result<bool, NoMemory>
+        requires { IsIdle (F.seen files.old) }
+        ensures idle { IsIdle (F.seen files.new) }
+        ensures me { F.me files.new ≡ F.me files.old }
+    {
+        let words = words_of(alloc, self.words)?;
+        let vars = vars_of(alloc, self.vars)?;
+        let mut source = MemSource::new(Bytes::of(alloc, self.input)?, Vec::new(alloc));
+        let mut out = MemSink::new(alloc, Vec::new(alloc));
+        let status = run(alloc, &words, &vars, files, &mut source, &mut out);
+        Ok(status == self.status && out.bytes() == self.printed)
+    }
+
+    /// Makes the call over files of its own, and whether it ended as it has to.
+    pub fn alone(&self, alloc: Global) -> Result<bool, NoMemory> {
+        let mut files = MemFiles::new(alloc, ME)?;
+        self.take(alloc, &mut files)
+    }
+}

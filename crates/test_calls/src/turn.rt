@@ -1,0 +1,79 @@
+ghost use Rattle.std.specs.Prelude.{◌≡◌};
+ghost use Rattle.file_log.specs.Seat.{IsIdle};
+
+use crate::call::Call;
+use cache_types::NoMemory;
+use files_api::Files;
+use report_text::Status;
+use std::alloc::Global;
+
+/// A put or a lookup in the folder store `store`, for GPU `g`.
+#[derive(Clone, Copy)]
+pub struct Turn<'a> {
+    word: &'a str,
+    id: &'a str,
+    key: &'a str,
+    input: &'a [u8],
+    status: Status,
+    printed: &'a [u8],
+}
+
+/// A put that ends well. `id` is the option for the driver, as `--id=d`.
+pub fn put<'a>(id: &'a str, key: &'a str, input: &'a [u8], printed: &'a [u8]) -> Turn<'a> {
+    Turn {
+        word: "put",
+        id,
+        key,
+        input,
+        status: Status::Ok,
+        printed,
+    }
+}
+
+/// A lookup that hits.
+pub fn hit<'a>(id: &'a str, key: &'a str, printed: &'a [u8]) -> Turn<'a> {
+    Turn {
+        word: "get",
+        id,
+        key,
+        input: &[],
+        status: Status::Ok,
+        printed,
+    }
+}
+
+/// A lookup that misses.
+pub fn miss<'a>(id: &'a str, key: &'a str) -> Turn<'a> {
+    hit(id, key, &[]).fails(Status::Miss)
+}
+
+impl Turn<'_> {
+    /// The same call that ends in this status and prints nothing.
+    pub fn fails(self, status: Status) -> Self {
+        Turn {
+            status,
+            printed: &[],
+            ..self
+        }
+    }
+
+    /// Makes the call, and whether it ended as it has to.
+    pub fn take<F: Files>(&self, alloc: Global, files: &mut F) -> Result<bool, NoMemory>
+        requires { IsIdle (F.seen files.old) }
+        ensures idle { IsIdle (F.seen files.new) }
+        ensures me { F.me files.new ≡ F.me files.old }
+    {
+        let words = [
+            self.word,
+            self.id,
+            "--gpu=g",
+            "--layout=folder",
+            "--root=store",
+            self.key,
+        ];
+        Call::ends(&words, self.status)
+            .on(self.input)
+            .prints(self.printed)
+            .take(alloc, files)
+    }
+}
