@@ -32,9 +32,17 @@ use std::alloc::Global;
 pub fn check_log(alloc: Global, log: &[LogItem]) -> Result<Verdict, NoMemory>
     ensures { IfOk result (IsVerdict log.now) }
 {
-    if let Some(place) = first_illegal(&World::new(alloc), log)? {
-        return Ok(Verdict::IllegalAt(place));
+    match first_illegal(&World::new(alloc), log)? {
+        Some(place) => Ok(Verdict::IllegalAt(place)),
+        None => check_rules(alloc, log),
     }
+}
+
+/// The verdict on a log that can be.
+fn check_rules(alloc: Global, log: &[LogItem]) -> Result<Verdict, NoMemory>
+    requires { Legal (first []) log.now }
+    ensures { IfOk result (IsVerdict log.now) }
+{
     match first_broken(alloc, log)? {
         None => Ok(Verdict::Good),
         Some(place) => Ok(Verdict::BrokenAt(place)),

@@ -30,11 +30,7 @@ impl Ledger {
     fn keeps(&self, tables: &Tables, who: Who, entry: &EntryChange, put: &BegunPut) -> bool
         ensures { result ≡ keeps_put self.now.evicting.items who entry.now.root entry.now.key (bytes_in (disk_at tables.now).files entry.now.old) (bytes_in (disk_at tables.now).files entry.now.new) put.now }
     {
-        let was_held = put.is_at(entry.root, entry.key) && reads(
-            tables,
-            &put.at.driver,
-            entry.old,
-        );
+        let was_held = put.is_at(entry.root, entry.key) && reads(tables, &put.at.driver, entry.old);
         !was_held
             || reads(tables, &put.at.driver, entry.new)
             || is_evicting(&self.evicting, who, &put.at)

@@ -18,9 +18,7 @@ use world_tables::Tables;
 fn may_leave(tables: &Tables, who: Who, name: &Name) -> bool
     ensures { result ≡ cases.may_leave (disk_at tables.now) who name.now }
 {
-    !is_lasting(name)
-        && !is_foreign(name)
-        && (!is_temporary(name) || may_write(tables, who, name))
+    !is_lasting(name) && !is_foreign(name) && (!is_temporary(name) || may_write(tables, who, name))
 }
 
 /// Whether another file may come in the place of a name that is no entry's.

@@ -14,9 +14,7 @@ use world_tables::Tables;
 fn may_make(tables: &Tables, who: Who, name: &Name) -> bool
     ensures { result ≡ cases.may_make (disk_at tables.now) who name.now }
 {
-    !is_entry(name)
-        && !is_foreign(name)
-        && (!comes_guarded(name) || may_write(tables, who, name))
+    !is_entry(name) && !is_foreign(name) && (!comes_guarded(name) || may_write(tables, who, name))
 }
 
 /// Whether a seat may open a name, which gets a new file where it has none.

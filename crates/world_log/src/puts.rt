@@ -1,4 +1,4 @@
-ghost use Rattle.std.specs.Prelude.{◌≡◌, ◌++◌, Some, IfOk, OnOk, OnErr};
+ghost use Rattle.std.specs.Prelude.{◌≡◌, ◌≢◌, ◌++◌, false, Some, IfOk, OnOk, OnErr};
 ghost use Rattle.std.specs.List.{list_any};
 ghost use Rattle.log_summary.specs.Summary.{put_in, put_by, read_for};
 ghost use Rattle.rule_cases.specs.Cases as cases;
@@ -27,19 +27,24 @@ impl Model for BegunPut {
     ghost view = { λ p. record { at = p.at; blob = p.blob } };
 }
 
+/// That refused bytes are no item, unless memory ran out.
+fn is_no_item(refusal: ItemRefusal) -> Result<bool, NoMemory>
+    ensures none { IfOk result (λ is. is ≡ false) }
+    ensures memory { OnOk result (refusal ≢ ItemRefusal.NoMemory) }
+{
+    match refusal {
+        ItemRefusal::NoMemory => Err(NoMemory),
+        _ => Ok(false),
+    }
+}
+
 /// Whether bytes are an item of a driver and of this blob.
-fn is_item(
-    alloc: Global,
-    driver: &Driver,
-    bytes: &[u8],
-    blob: &Bytes,
-) -> Result<bool, NoMemory>
+fn is_item(alloc: Global, driver: &Driver, bytes: &[u8], blob: &Bytes) -> Result<bool, NoMemory>
     ensures { IfOk result (λ same. same ≡ tests.same_blob (read_for driver.now (Some bytes.now)) (Some blob.now)) }
 {
     match read_blob(alloc, driver, bytes) {
         Ok(read) => Ok(read == *blob),
-        Err(ItemRefusal::NoMemory) => Err(NoMemory),
-        Err(_) => Ok(false),
+        Err(refusal) => is_no_item(refusal),
     }
 }
 
@@ -56,13 +61,7 @@ impl BegunPut {
     }
 
     /// Whether bytes are an item of it, in this root's folder store under the key.
-    fn has_item(
-        &self,
-        alloc: Global,
-        root: u32,
-        key: Key,
-        bytes: &[u8],
-    ) -> Result<bool, NoMemory>
+    fn has_item(&self, alloc: Global, root: u32, key: Key, bytes: &[u8]) -> Result<bool, NoMemory>
         ensures { IfOk result (λ is. is ≡ tests.is_item_of root key bytes.now self.now) }
     {
         if !self.is_at(root, key) {
@@ -104,7 +103,8 @@ fn begin(puts: &mut Vec<BegunPut>, request: &Request) -> Result<(), NoMemory>
         meta: _,
         blob,
         limit: _,
-    } = request {
+    } = request
+    {
         let at = Address::of(*store, driver, *key)?;
         let blob = blob.copy()?;
         puts.push(BegunPut { at, blob })?;

@@ -8,6 +8,7 @@ const ONE: Who = Who {
     process: 1,
     seat: 0,
 };
+
 const TWO: Who = Who {
     process: 2,
     seat: 0,

@@ -22,3 +22,16 @@ loop-index-preserved c =
       ledger = ledger_then log i c.go_on.new.ledger item c.loop-index-test.true c.index-log-index.is c.loop-index.invariant.passed here (λ k. c.in_ok-go_on.ensures.ledger s c.loop-index.invariant.ledger disk k);
       passed = passed_then log i item c.loop-index-test.true c.index-log-index.is c.loop-index.invariant.passed here;
     }
+
+pub returns-then-not-branch : goal.returns-then-not-branch
+returns-then-not-branch c =
+    let log = c.args.log.now in
+    let i = c.loop-index.index in
+    let item = c.index-log-index.result in
+    let s = summary_of (take i log) in
+    let no : c.in_ok-passes.field-0 ≡ false = search rules in
+    let fails : passes s item ≡ false = sym (c.in_ok-passes.ensures s c.loop-index.invariant.ledger (c.tables.ensures ∙ disk_told log i c.loop-index.world c.loop-index.invariant.world)) ∙ no in
+    fails_first log i item c.requires c.loop-index-test.true c.index-log-index.is c.loop-index.invariant.passed fails
+
+pub returns : goal.returns
+returns c = all_pass c.args.log.now c.loop-index.index c.requires c.loop-index-test.false c.loop-index.invariant.passed
