@@ -1,11 +1,9 @@
 //! A name is renamed or removed.
 
-ghost use Rattle.std.specs.Prelude.{◌≡◌, ◌&&◌, not, is_none, IfOk};
-ghost use Rattle.folder_rules.specs.Changes.{may_write as may_write_name};
-ghost use Rattle.folder_rules.specs.Kinds.{comes_guarded as comes_guarded_name, is_foreign as is_foreign_name, is_lasting as is_lasting_name};
-ghost use Rattle.rule_checks.specs.Tests.{implies};
+ghost use Rattle.std.specs.Prelude.{◌≡◌, IfOk};
 ghost use Rattle.rule_cases.specs.Cases as cases;
 ghost use Rattle.world_log.specs.Ledgers.{told_by};
+ghost use Rattle.world_log.specs.Replacing.{may_replace};
 ghost use Rattle.world_tables.specs.Tables.{disk_at};
 
 use crate::kinds::{comes_guarded, is_entry, is_foreign, is_lasting, is_temporary, may_write};
@@ -22,8 +20,8 @@ fn may_leave(tables: &Tables, who: Who, name: &Name) -> bool
 }
 
 /// Whether another file may come in the place of a name that is no entry's.
-fn may_come(tables: &Tables, who: Who, to: &Name) -> bool
-    ensures { result ≡ (implies (is_lasting_name to.now) (is_none ((disk_at tables.now).names to.now)) && not (is_foreign_name to.now) && implies (comes_guarded_name to.now) (may_write_name (disk_at tables.now) who to.now)) }
+fn may_come_in_place(tables: &Tables, who: Who, to: &Name) -> bool
+    ensures { result ≡ may_replace (disk_at tables.now) who to.now }
 {
     (!is_lasting(to) || file_named(tables, to).is_none())
         && !is_foreign(to)
@@ -44,7 +42,7 @@ impl Ledger {
     {
         match to {
             Name::Entry { root, key } => self.entry_comes(tables, who, *root, *key, from, file),
-            _ => Ok(may_come(tables, who, to)),
+            _ => Ok(may_come_in_place(tables, who, to)),
         }
     }
 
