@@ -1,0 +1,5 @@
+pub mod Comparisons
+pub mod Going
+pub mod Named
+pub mod Places
+pub mod Readings

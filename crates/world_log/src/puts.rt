@@ -1,0 +1,124 @@
+ghost use Rattle.std.specs.Prelude.{◌≡◌, ◌≢◌, ◌++◌, false, Some, IfOk, OnOk, OnErr};
+ghost use Rattle.std.specs.List.{list_any};
+ghost use Rattle.log_summary.specs.Summary.{put_in, put_by, read_for};
+ghost use Rattle.rule_cases.specs.Cases as cases;
+ghost use Rattle.rule_checks.specs.Tests as tests;
+
+use crate::address::Address;
+use crate::same::{same_key, same_store};
+use cache_types::{Bytes, Driver, Key, Layout, NoMemory, Request, Store};
+use file_log::LogItem;
+use item_frame::{ItemRefusal, read_blob};
+use std::alloc::Global;
+use std::marker::Model;
+
+/// A put that began: what it puts, and under what.
+#[derive(Debug, Drop)]
+pub struct BegunPut {
+    pub at: Address,
+    pub blob: Bytes,
+}
+
+impl Model for BegunPut {
+    ghost use Rattle.log_summary.specs.Summary.{BegunPut as ThePut};
+
+    ghost Value = { ThePut };
+
+    ghost view = { λ p. record { at = p.at; blob = p.blob } };
+}
+
+/// That refused bytes are no item, unless memory ran out.
+fn is_no_item(refusal: ItemRefusal) -> Result<bool, NoMemory>
+    ensures none { IfOk result (λ is. is ≡ false) }
+    ensures memory { OnOk result (refusal ≢ ItemRefusal.NoMemory) }
+{
+    match refusal {
+        ItemRefusal::NoMemory => Err(NoMemory),
+        _ => Ok(false),
+    }
+}
+
+/// Whether bytes are an item of a driver and of this blob.
+fn is_item(alloc: Global, driver: &Driver, bytes: &[u8], blob: &Bytes) -> Result<bool, NoMemory>
+    ensures { IfOk result (λ same. same ≡ tests.same_blob (read_for driver.now (Some bytes.now)) (Some blob.now)) }
+{
+    match read_blob(alloc, driver, bytes) {
+        Ok(read) => Ok(read == *blob),
+        Err(refusal) => is_no_item(refusal),
+    }
+}
+
+impl BegunPut {
+    /// Whether it puts into this root's folder store under the key.
+    pub fn is_at(&self, root: u32, key: Key) -> bool
+        ensures { result ≡ cases.is_put_at root key self.now }
+    {
+        let folder = Store {
+            root,
+            layout: Layout::Folder,
+        };
+        same_store(self.at.store, folder) && same_key(self.at.key, key)
+    }
+
+    /// Whether bytes are an item of it, in this root's folder store under the key.
+    fn has_item(&self, alloc: Global, root: u32, key: Key, bytes: &[u8]) -> Result<bool, NoMemory>
+        ensures { IfOk result (λ is. is ≡ tests.is_item_of root key bytes.now self.now) }
+    {
+        if !self.is_at(root, key) {
+            return Ok(false);
+        }
+        is_item(alloc, &self.at.driver, bytes, &self.blob)
+    }
+}
+
+/// Whether bytes are an item of one of these puts, in this root's folder store under the key.
+pub fn is_put_item(
+    alloc: Global,
+    puts: &[BegunPut],
+    root: u32,
+    key: Key,
+    bytes: &[u8],
+) -> Result<bool, NoMemory>
+    ensures { IfOk result (λ is. is ≡ list_any (tests.is_item_of root key bytes.now) puts.now) }
+{
+    let mut rest = puts;
+    while let [first, tail @ ..] = rest {
+        if first.has_item(alloc, root, key, bytes)? {
+            return Ok(true);
+        }
+        rest = tail;
+    }
+    Ok(false)
+}
+
+/// Adds the put that a request asks for, if it is one. A refusal changes nothing.
+fn begin(puts: &mut Vec<BegunPut>, request: &Request) -> Result<(), NoMemory>
+    ensures ok { OnOk result (puts.new.items ≡ puts.old.items ++ put_by request.now) }
+    ensures err { OnErr result (puts.new.items ≡ puts.old.items) }
+{
+    if let Request::Put {
+        store,
+        driver,
+        key,
+        meta: _,
+        blob,
+        limit: _,
+    } = request
+    {
+        let at = Address::of(*store, driver, *key)?;
+        let blob = blob.copy()?;
+        puts.push(BegunPut { at, blob })?;
+    }
+    Ok(())
+}
+
+/// Goes on over an item: a put begins with its Begin. A refusal changes nothing.
+pub fn follow_put(puts: &mut Vec<BegunPut>, item: &LogItem) -> Result<(), NoMemory>
+    ensures ok { OnOk result (puts.new.items ≡ puts.old.items ++ put_in item.now) }
+    ensures err { OnErr result (puts.new.items ≡ puts.old.items) }
+{
+    match item {
+        LogItem::Begin { who: _, request } => begin(puts, request),
+        _ => Ok(()),
+    }
+}
