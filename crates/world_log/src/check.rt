@@ -1,4 +1,4 @@
-ghost use Rattle.std.specs.Prelude.{◌≡◌, ◌∷◌, [], true, IfOk, OnOk, take};
+ghost use Rattle.std.specs.Prelude.{◌≡◌, ◌∷◌, [], true, IfOk, OnOk};
 ghost use Rattle.file_log.specs.Effect.{applied};
 ghost use Rattle.file_log.specs.Legal.{IsLegal, Legal};
 ghost use Rattle.file_log.specs.State.{first, state_of, disk_of};
