@@ -1,5 +1,5 @@
 -- The names that a file has had, among names with their files.
-use Rattle.std.proofs.Common.{◌≡◌, ℕ, Bool, true, false, cond, ◌&&◌, nat_eq, List, [], ◌∷◌, map, filter, refl, ap, ◌∙◌}
+use Rattle.std.proofs.Common.{◌≡◌, ℕ, Bool, true, false, cond, ◌&&◌, nat_eq, List, [], ◌∷◌, map, filter, refl, ap}
 use Rattle.std.specs.List.{list_all}
 use Rattle.cache_types.specs.declared.name.Name.{Name}
 use Rattle.operation_ledger.specs.Had.{names_of_file}

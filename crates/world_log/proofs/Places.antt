@@ -1,20 +1,17 @@
 -- The places of a log and those of its first items.
-use Rattle.std.proofs.Common.{◌≡◌, ℕ, zero, suc, ◌+◌, ◌<◌, ◌≤◌, true, false, List, [], ◌∷◌, ◌++◌, take, drop, length, fold, get_or, slice_get, Option, Some, None, refl, sym, ap, ◌∙◌, subst, arith}
-use Rattle.std.proofs.Math.Seq.{take-length}
+use Rattle.std.proofs.Common.{◌≡◌, ℕ, zero, suc, ◌+◌, ◌<◌, ◌≤◌, true, false, List, [], ◌∷◌, take, drop, length, get_or, slice_get, Option, Some, refl, sym, ap, ◌∙◌, subst, arith}
 use Rattle.std.proofs.lemmas.Bool.{false≢true}
 use Rattle.std.proofs.lemmas.List.{length-take, take_more, take-append-drop}
 use Rattle.std.proofs.lemmas.List.Sums.{fold-append}
 use Rattle.std.proofs.lemmas.Option.{slice_get-get_or, slice_get_within}
 use Rattle.file_log.proofs.Logs.{All-append}
-use Rattle.file_log.specs.Effect.{applied}
 use Rattle.file_log.specs.Along.{All}
 use Rattle.file_log.specs.Legal.{Legal, IsLegal}
 use Rattle.file_log.specs.Log.{History}
 use Rattle.file_log.specs.State.{first, after}
 use Rattle.file_log.specs.declared.item.LogItem.{LogItem}
 use Rattle.folder_rules.proofs.Along.{all_split}
-use Rattle.folder_rules.specs.Kinds.{is_entry}
-use Rattle.folder_rules.specs.Places.{At, AtEach, KeepsAt, BreaksAt, Cooperating, past}
+use Rattle.folder_rules.specs.Places.{At, AtEach, KeepsAt, Cooperating, past}
 use Rattle.folder_rules.specs.Promises.{IsLicensed, IsFound}
 use Rattle.folder_rules.specs.Rules.{KeepsRules}
 use Rattle.folder_laws.proofs.Finding.{found}

@@ -1,5 +1,5 @@
 -- What a ledger carries along a log, as the log's summary says it.
-use Rattle.std.specs.Prelude.{◌≡◌, ℕ, Bool, ◌&&◌, ◌||◌, List, [], ◌++◌, Option, is_some}
+use Rattle.std.specs.Prelude.{◌≡◌, ℕ, Bool, ◌&&◌, ◌||◌, List, [], Option, is_some}
 use Rattle.std.specs.List.{list_any}
 use Rattle.cache_types.specs.declared.key.Key.{Key}
 use Rattle.cache_types.specs.declared.seat.Who.{Who}

@@ -1,4 +1,4 @@
-ghost use Rattle.std.specs.Prelude.{◌≡◌, ◌∷◌, [], true, IfOk, OnOk, take};
+ghost use Rattle.std.specs.Prelude.{◌≡◌, ◌∷◌, [], true, IfOk, OnOk};
 ghost use Rattle.file_log.specs.Effect.{applied};
 ghost use Rattle.file_log.specs.Legal.{IsLegal, Legal};
 ghost use Rattle.file_log.specs.State.{first, state_of, disk_of};
@@ -22,9 +22,9 @@ use std::alloc::Global;
 /// `BrokenAt` exactly where an item of a seat breaks one of the rules among seats, or is a hit of what
 /// wasn't put, or the answer of a lookup that doesn't find what is promised to it; its number is the first
 /// such. Else `Good`. No hit is unlicensed and no lookup fails to find before a rule is broken
-/// (`folder_laws::all_are_served`), so legality and the rules alone are tested. An item costs time in the
-/// number of names on the disk and of operations, and a rename or a removal of an entry also in the number
-/// of puts, so that the whole takes about as long as the log.
+/// (`folder_laws::all_are_served`), so legality and the rules alone are tested. What the rules ask of the
+/// log's past is carried along it, not made anew at each place. A rename or a removal of an entry looks at
+/// each put that began, another item at none.
 ///
 /// # Errors
 ///

@@ -1,4 +1,4 @@
-ghost use Rattle.std.specs.Prelude.{◌≡◌, ◌||◌, ◌++◌, true, OnOk, OnErr};
+ghost use Rattle.std.specs.Prelude.{◌≡◌, ◌++◌, OnOk};
 ghost use Rattle.file_log.specs.Log.{is_rough as the_rough};
 ghost use Rattle.log_summary.specs.Summary.{Summary, nothing, summed, gained};
 ghost use Rattle.operation_ledger.specs.Had.{IsNamesHad};
