@@ -12,13 +12,16 @@ const ITEM: &[u8] = b"\x01a\0b\0\x08\0\0\0\0\0\0\0\0\0\0\0\0\x28\x9e\xf3\xff\x06
 #[test]
 fn an_entry_is_given(rt: HostRuntime) -> Result<(), Fail> {
     let alloc = rt.alloc();
-    let entry = Name::Entry { root: 3, key: KEY };
-    let files = vec![in alloc; (entry, Bytes::of(alloc, ITEM)?)]?;
+    let bytes = Bytes::of(alloc, ITEM)?;
+    let mut files = Vec::new(alloc);
+    files.push((Name::Entry { root: 3, key: KEY }, bytes))?;
     let world = World::on_disk(alloc, files)?;
     let driver = Driver::new(alloc, "a", "b", 0)?;
     let other = Driver::new(alloc, "b", "b", 0)?;
-    let given = folder_gives(&world, 3, &driver, &KEY)?;
-    assert!(rt; matches!(given, Some(blob) if blob.as_slice() == b"shader".as_slice()));
+    match folder_gives(&world, 3, &driver, &KEY)? {
+        Some(blob) => assert_eq!(rt; blob.as_slice(), b"shader".as_slice()),
+        None => assert!(rt; false),
+    }
     assert!(rt; folder_gives(&world, 3, &other, &KEY)?.is_none());
     assert!(rt; folder_gives(&world, 2, &driver, &KEY)?.is_none());
     Ok(())
