@@ -1,0 +1,94 @@
+use cache_types::Answer;
+use file_log::LogItem;
+use schedule_draws::schedule;
+use sim_world::play;
+use std::alloc::Global;
+use std::ops::Range;
+use std::test::Fail;
+use world_log::{Verdict, check_log};
+
+/// How many operations ended with each answer, how many calls failed, and how many processes were stopped.
+#[derive(Clone, Copy, Debug)]
+struct Counts {
+    stored: u64,
+    kept: u64,
+    hits: u64,
+    misses: u64,
+    failures: u64,
+    stops: u64,
+}
+
+impl Counts {
+    /// Counts an item.
+    fn add(&mut self, item: &LogItem) {
+        let count = match item {
+            LogItem::End { who: _, answer } => match answer {
+                Answer::Stored => &mut self.stored,
+                Answer::Kept => &mut self.kept,
+                Answer::Hit(_) => &mut self.hits,
+                Answer::Miss => &mut self.misses,
+                _ => return,
+            },
+            LogItem::Failed { who: _, memory: _ } => &mut self.failures,
+            LogItem::Stop { process: _ } => &mut self.stops,
+            _ => return,
+        };
+        *count = count.saturating_add(1);
+    }
+
+    /// Whether each was seen five times at least.
+    fn are_many(&self) -> bool {
+        let least = self.stored.min(self.kept).min(self.hits);
+        least.min(self.misses).min(self.failures).min(self.stops) >= 5
+    }
+}
+
+/// Plays a schedule of so many turns that is drawn from a seed, and judges its log.
+fn judged(alloc: Global, seed: u64, turns: usize, counts: &mut Counts) -> Result<Verdict, Fail> {
+    let turns = schedule(alloc, seed, turns)?;
+    let log = play(alloc, &turns)?.log()?;
+    for item in &log {
+        counts.add(item);
+    }
+    Ok(check_log(alloc, &log)?)
+}
+
+/// Plays and judges the schedules of these seeds: each log is good, and each thing was done many times.
+fn are_good(rt: &HostRuntime, seeds: Range<u64>) -> Result<(), Fail> {
+    let mut counts = Counts {
+        stored: 0,
+        kept: 0,
+        hits: 0,
+        misses: 0,
+        failures: 0,
+        stops: 0,
+    };
+    for seed in seeds {
+        let verdict = judged(rt.alloc(), seed, 200, &mut counts)?;
+        assert_eq!(rt; verdict, Verdict::Good, "seed {seed}");
+    }
+    assert!(rt; counts.are_many(), "{counts:?}");
+    Ok(())
+}
+
+/// Three processes with two seats each on two stores, whose calls fail and which are stopped now and then: the
+/// log of each of a thousand schedules is good.
+#[test]
+fn the_first_drawn_schedules_are_good(rt: HostRuntime) -> Result<(), Fail> {
+    are_good(&rt, 0..250)
+}
+
+#[test]
+fn the_second_drawn_schedules_are_good(rt: HostRuntime) -> Result<(), Fail> {
+    are_good(&rt, 250..500)
+}
+
+#[test]
+fn the_third_drawn_schedules_are_good(rt: HostRuntime) -> Result<(), Fail> {
+    are_good(&rt, 500..750)
+}
+
+#[test]
+fn the_last_drawn_schedules_are_good(rt: HostRuntime) -> Result<(), Fail> {
+    are_good(&rt, 750..1_000)
+}

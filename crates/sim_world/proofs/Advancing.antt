@@ -1,0 +1,180 @@
+-- What a step of a busy seat keeps, and that it is the schedule's.
+use Rattle.std.proofs.Common.{◌≡◌, ◌⊎◌, inl, inr, ℕ, cond, ◌&&◌, Bool, true, false, List, [], ◌∷◌, ◌++◌, fold, Option, Some, None, refl, sym, ap, subst, ◌∙◌}
+use Rattle.cache_types.specs.declared.answer.Answer.{Answer}
+use Rattle.cache_types.specs.declared.request.Request.{Request}
+use Rattle.cache_types.specs.declared.seat.Who.{Who}
+use Rattle.cache_types.specs.Seats.{same_seat}
+use Rattle.file_log.specs.declared.call.Call.{Call}
+use Rattle.file_log.specs.declared.item.LogItem.{LogItem}
+use Rattle.file_log.specs.declared.item.LogItem.TheVariants as items
+use Rattle.file_log.specs.State.{State, after, state_of}
+use Rattle.file_log.specs.Log.{is_own}
+use Rattle.file_log.proofs.All.{seat_self}
+use Rattle.file_model.specs.declared.step.Progress.{Progress}
+use Rattle.file_model.specs.Held.{Held}
+use Rattle.file_model.specs.Held as held
+use Rattle.file_model.specs.Steps.{step_items, StepFits, IsFated, is_inside}
+use Rattle.files_api.specs.declared.machine.Step.{Step}
+use Rattle.files_api.specs.declared.machine.Step.TheVariants.{Ask, Done}
+use Rattle.files_api.specs.Drive.{Allows, IsWithin}
+use Rattle.folder_rules.specs.Places.{past}
+use Rattle.op_machine.specs.declared.op.Op.{Op}
+use Rattle.op_machine.specs.Machine.{asks, slots, hurt, allowed}
+use Rattle.op_machine.specs.Places.{Where}
+use Rattle.op_machine.proofs.Standing as standing
+use Rattle.op_machine.proofs.Standing.{Stands}
+use Rattle.world_tables.proofs.Finds.{same_seat-true}
+use Rattle.sim_world.specs.declared.failing.Failing.{Failing}
+use Rattle.sim_world.specs.declared.jobs.Job.{Job}
+use Rattle.sim_world.specs.declared.jobs.Offered.{Offered}
+use Rattle.sim_world.specs.declared.operation.Brought.{Brought}
+use Rattle.sim_world.specs.declared.operation.Brought.TheVariants as brings
+use Rattle.sim_world.specs.declared.operation.Moved.{Moved}
+use Rattle.sim_world.specs.declared.operation.Operation.{Operation}
+use Rattle.sim_world.specs.declared.seats.Seat.{Seat}
+use Rattle.sim_world.specs.declared.seats.Task.{Task}
+use Rattle.sim_world.specs.declared.seats.Task.TheVariants as tasks
+use Rattle.sim_world.specs.Played.{MayCome, stepped, Steps}
+use Rattle.sim_world.specs.Scene.{Scene, Activity, Idle, Asked, Inside, Waiting, told, with_seat, with_failing}
+use Rattle.sim_world.specs.Stages.{where_in, where_of, seats_at, activity_of, scene_from, AreSeated, AreJobs}
+use Rattle.sim_world.specs.Steps.{fate_of, brought_by, IsBrought, is_failure, Asks, Ends, Goes, Begins, Waits, Advances}
+use Rattle.sim_world.specs.Tables.{task_of, Once, failing_of, jobs_of}
+use Rattle.sim_world.proofs.Ordered.{state_is, Changes}
+use Rattle.sim_world.proofs.Stepping.{Leaves, step_leaves, leaves_told, jobs_stay, begin_seated, wait_seated, end_seated, ask_seated, told_inside}
+use Rattle.sim_world.proofs.Scenes.{same_scene, activity_then, Tells, Fails, call_told}
+
+module _ (who : Who) (w w' : Held) (seats seats' : List Seat) (moved : Moved) (a : AreSeated w seats) (goes : (state_of w.past).halted who.process ≡ false) (changes : Changes who moved.task seats seats') (once : Once seats') where
+  alive : (state_of (past w.past.log)).halted who.process ≡ false
+  alive = sym (ap (λ (s : State). s.halted who.process) (state_is w a.start)) ∙ goes
+
+  stands_there : (place : Where) → seats_at seats who ≡ place → Stands who place (past w.past.log)
+  stands_there place at = subst (λ (p : Where). Stands who p (past w.past.log)) at (a.orderly.stand who alive)
+
+  inside_there : (n : Op) (call : Call) (done : ℕ) → seats_at seats who ≡ Where.Within n call done → is_inside who w ≡ true
+  inside_there n call done at = standing.is_inside who n call done (past w.past.log) (stands_there (Where.Within n call done) at)
+
+  -- a call that a machine asks for within its operation is no Begin and no End
+  within_there : (n : Op) (call : Call) (done : ℕ) → seats_at seats who ≡ Where.Within n call done → IsWithin call
+  within_there n call done at =
+      let s = stands_there (Where.Within n call done) at in
+      (subst (Allows (slots s.m) (hurt s.m)) s.making.asks_so (allowed s.m)).1
+
+  goes_seated : (step : Step) (n : Op) (done : ℕ) (failing : Option Bool) → seats_at seats who ≡ where_in step n done → Goes who step n done failing w w' moved → AreSeated w' seats'
+  goes_seated (Ask call) n done failing at x = ask_seated who w w' seats seats' moved a goes changes once n call done failing at (inside_there n call done at) x
+  goes_seated (Done given) n done failing at x = end_seated who w w' seats seats' moved a goes changes once given (stands_there (Where.Ending given) at) x
+
+  -- all stand after a step
+  pub advance_seated : (task : Task) (failing : Option Bool) → task_of seats who ≡ Some task → Advances who task failing w w' moved → AreSeated w' seats'
+  advance_seated (tasks.Asked request) failing at (inl x) = begin_seated who w w' seats seats' moved a goes changes once request at x
+  advance_seated (tasks.Asked request) failing at (inr x) = wait_seated who w w' seats seats' moved a goes changes once request at x
+  advance_seated (tasks.Begun operation) failing at x = goes_seated operation.wants operation.machine operation.done failing (ap where_of at) x
+
+  goes_jobs : (step : Step) (n : Op) (done : ℕ) (failing : Option Bool) (jobs : List Job) (offered : List Offered) → seats_at seats who ≡ where_in step n done → Goes who step n done failing w w' moved → AreJobs (state_of w.past) jobs offered → AreJobs (state_of w'.past) jobs offered
+  goes_jobs (Ask call) n done failing jobs offered at x j =
+      jobs_stay (state_of w.past) (state_of w'.past) jobs offered
+      (leaves_told w w' (step_items x.progress who true call done) (told_inside who w w' seats seats' moved a goes changes once x.progress call done (inside_there n call done at) x.stepped) (step_leaves who x.progress call done (state_of w.past))) j
+  goes_jobs (Done given) n done failing jobs offered at x j =
+      jobs_stay (state_of w.past) (state_of w'.past) jobs offered (leaves_told w w' (items.End who x.answer ∷ []) x.told_is (record { halted = λ p. refl; waiting = λ p. refl; used = λ p. refl })) j
+
+  -- the queues are as before it
+  pub advance_jobs : (task : Task) (failing : Option Bool) (jobs : List Job) (offered : List Offered) → task_of seats who ≡ Some task → Advances who task failing w w' moved → AreJobs (state_of w.past) jobs offered → AreJobs (state_of w'.past) jobs offered
+  advance_jobs (tasks.Asked request) failing jobs offered at (inl x) j =
+      jobs_stay (state_of w.past) (state_of w'.past) jobs offered (leaves_told w w' (items.Begin who request ∷ []) x.told_is (record { halted = λ p. refl; waiting = λ p. refl; used = λ p. refl })) j
+  advance_jobs (tasks.Asked request) failing jobs offered at (inr x) j = subst (λ (v : Held). AreJobs (state_of v.past) jobs offered) (sym x.same) j
+  advance_jobs (tasks.Begun operation) failing jobs offered at x j = goes_jobs operation.wants operation.machine operation.done failing jobs offered (ap where_of at) x j
+
+  -- ---- the scene
+
+  module _ (failing failing' : List Failing) (jobs : List Job) (settled : (v : Who) → failing_of failing' v ≡ cond (is_failure moved.brought && same_seat v who) None (failing_of failing v)) where
+    abbrev old : Scene
+    old = scene_from w seats failing jobs
+
+    abbrev new : Scene
+    new = scene_from w' seats' failing' jobs
+
+    log_then : (x : LogItem) → w' ≡ held.told w (x ∷ []) → new.log ≡ old.log ++ x ∷ []
+    log_then x e = ap (λ (v : Held). v.past.log) e
+
+    clock_then : (x : LogItem) → w' ≡ held.told w (x ∷ []) → new.clock ≡ old.clock
+    clock_then x e = ap (λ (v : Held). v.clock) e
+
+    seats_then : (task : Option Task) → moved.task ≡ task → (v : Who) → new.seats v ≡ cond (same_seat v who) (activity_of task) (old.seats v)
+    seats_then task e v = activity_then who moved.task seats seats' changes v ∙ ap (λ (t : Option Task). cond (same_seat v who) (activity_of t) (old.seats v)) e
+
+    -- no failure was used
+    none_used : moved.brought ≡ brings.Item → (v : Who) → new.failing v ≡ old.failing v
+    none_used e v = settled v ∙ ap (λ (b : Brought). cond (is_failure b && same_seat v who) None (old.failing v)) e
+
+    one_used : moved.brought ≡ brings.Failure → (v : Who) → new.failing v ≡ cond (same_seat v who) None (old.failing v)
+    one_used e v = settled v ∙ ap (λ (b : Brought). cond (is_failure b && same_seat v who) None (old.failing v)) e
+
+    inside_by : (v : Who) (b : Bool) → same_seat v who ≡ b → old.seats who ≡ Inside → cond b Inside (old.seats v) ≡ old.seats v
+    inside_by v true e at = sym (ap (λ (x : Who). old.seats x) (same_seat-true v who e) ∙ at)
+    inside_by v false e at = refl
+
+    still_inside : (operation : Operation) → moved.task ≡ Some (tasks.Begun operation) → old.seats who ≡ Inside → (v : Who) → new.seats v ≡ old.seats v
+    still_inside operation e at v = seats_then (Some (tasks.Begun operation)) e v ∙ inside_by v (same_seat v who) refl at
+
+    begin_plays : (request : Request) → Begins who request w w' moved → Steps old who (Asked request) new
+    begin_plays request x =
+        same_scene new (with_seat (told old (items.Begin who request)) who Inside) (log_then (items.Begin who request) x.told_is) (clock_then (items.Begin who request) x.told_is)
+        (seats_then (Some (tasks.Begun x.operation)) (ap (λ (m : Moved). m.task) x.moved_is)) (none_used (ap (λ (m : Moved). m.brought) x.moved_is)) (λ p. refl)
+
+    end_plays : (given : Answer) → Ends who given w w' moved → Steps old who Inside new
+    end_plays given x =
+        let item : LogItem = items.End who x.answer in (
+          item,
+          seat_self who,
+          tt,
+          same_scene new (with_seat (told old item) who Idle) (log_then item x.told_is) (clock_then item x.told_is)
+              (seats_then None (ap (λ (m : Moved). m.task) x.moved_is)) (none_used (ap (λ (m : Moved). m.brought) x.moved_is)) (λ p. refl),
+        )
+
+    -- what brought an item, and what a failure
+    brought_item : (call : Call) (progress : Progress) → moved.brought ≡ brought_by (fate_of call (failing_of failing who)) progress → IsBrought moved.brought → IsBrought (brought_by (fate_of call (failing_of failing who)) progress)
+    brought_item call progress e b = subst IsBrought e b
+
+    tells_plays : (operation : Operation) (news : List LogItem) → w' ≡ held.told w news → moved.task ≡ Some (tasks.Begun operation) → old.seats who ≡ Inside → moved.brought ≡ brings.Item → Tells who old (failing_of failing who) news → Steps old who Inside new
+    tells_plays operation news e task at item t =
+        let told_is : w' ≡ held.told w (t.item ∷ []) = subst (λ (l : List LogItem). w' ≡ held.told w l) t.news_are e in (
+          t.item,
+          t.own_item,
+          t.may_come,
+          same_scene new (told old t.item) (log_then t.item told_is) (clock_then t.item told_is) (still_inside operation task at) (none_used item) (λ p. refl) ∙ sym t.plain,
+        )
+
+    fails_plays : (operation : Operation) (news : List LogItem) → w' ≡ held.told w news → moved.task ≡ Some (tasks.Begun operation) → old.seats who ≡ Inside → moved.brought ≡ brings.Failure → Fails who (failing_of failing who) news → Steps old who Inside new
+    fails_plays operation news e task at failure t =
+        let item : LogItem = items.Failed who t.memory in
+        let told_is : w' ≡ held.told w (item ∷ []) = subst (λ (l : List LogItem). w' ≡ held.told w l) t.news_are e in (
+          item,
+          seat_self who,
+          t.waited,
+          same_scene new (with_failing (told old item) who None) (log_then item told_is) (clock_then item told_is) (still_inside operation task at) (one_used failure) (λ p. refl),
+        )
+
+    ask_plays : (n : Op) (call : Call) (done : ℕ) → seats_at seats who ≡ Where.Within n call done → old.seats who ≡ Inside → IsBrought moved.brought → Asks who n call done (failing_of failing who) w w' moved → Steps old who Inside new
+    ask_plays n call done at inside brought x =
+        let is_in : is_inside who w ≡ true = inside_there n call done at in
+        let fits : StepFits x.progress true call done = subst (λ (b : Bool). StepFits x.progress b call done) is_in x.stepped.fits in
+        let fated : IsFated (fate_of call (failing_of failing who)) true call x.progress = subst (λ (b : Bool). IsFated (fate_of call (failing_of failing who)) b call x.progress) is_in x.fated in
+        let told_is = told_inside who w w' seats seats' moved a goes changes once x.progress call done is_in x.stepped in
+        let task : moved.task ≡ Some (tasks.Begun x.operation) = ap (λ (m : Moved). m.task) x.moved_is in
+        let brought_is : moved.brought ≡ brought_by (fate_of call (failing_of failing who)) x.progress = ap (λ (m : Moved). m.brought) x.moved_is in
+        elim (call_told who old (failing_of failing who) x.progress call done (within_there n call done at) fated fits x.clock (subst IsBrought brought_is brought)) [
+          | inl t ↦ tells_plays x.operation (step_items x.progress who true call done) told_is task inside (brought_is ∙ t.0) t.1
+          | inr t ↦ fails_plays x.operation (step_items x.progress who true call done) told_is task inside (brought_is ∙ t.0) t.1
+        ]
+
+    goes_plays : (step : Step) (n : Op) (done : ℕ) → seats_at seats who ≡ where_in step n done → old.seats who ≡ Inside → IsBrought moved.brought → Goes who step n done (failing_of failing who) w w' moved → Steps old who Inside new
+    goes_plays (Ask call) n done at inside brought x = ask_plays n call done at inside brought x
+    goes_plays (Done given) n done at inside brought x = end_plays given x
+
+    advance_by : (task : Task) → task_of seats who ≡ Some task → IsBrought moved.brought → Advances who task (failing_of failing who) w w' moved → Steps old who (activity_of (Some task)) new
+    advance_by (tasks.Asked request) at brought (inl x) = begin_plays request x
+    advance_by (tasks.Asked request) at brought (inr x) = absurd (subst IsBrought (ap (λ (m : Moved). m.brought) x.moved_is) brought)
+    advance_by (tasks.Begun operation) at brought x = goes_plays operation.wants operation.machine operation.done (ap where_of at) (ap activity_of at) brought x
+
+    -- a step that lacked no memory is the schedule's
+    pub advance_plays : (task : Task) → task_of seats who ≡ Some task → IsBrought moved.brought → Advances who task (failing_of failing who) w w' moved → Steps old who (old.seats who) new
+    advance_plays task at brought x = subst (λ (activity : Activity). Steps old who activity new) (sym (ap activity_of at)) (advance_by task at brought x)

@@ -1,0 +1,19 @@
+//! Schedules played on one world: seats do requests in turns, one item of the log a step, while calls fail
+//! and processes are stopped where the schedule says so. [`play`] gives the world that a schedule comes to.
+#![tactic(auto)]
+
+mod built;
+mod failing;
+mod jobs;
+mod offer;
+mod operation;
+mod playing;
+mod seats;
+mod stage;
+mod step;
+#[cfg(test)]
+mod tests;
+mod turn;
+
+pub use playing::play;
+pub use turn::Turn;

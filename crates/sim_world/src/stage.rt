@@ -1,0 +1,203 @@
+ghost use Rattle.std.specs.Prelude.{◌≡◌, ◌↔◌, None, IsTrue, IfOk, OnOk};
+ghost use Rattle.cache_types.specs.declared.name.Name.TheVariants.{Ro, RoIdx};
+ghost use Rattle.file_log.specs.State.{state_of, disk_of};
+ghost use Rattle.op_machine.specs.Requests.{IsBuilt};
+ghost use Rattle.sim_world.specs.Played.{Plays, GoesOn, IsFree, IsAbsent};
+ghost use Rattle.sim_world.specs.Scene.{opening};
+ghost use Rattle.sim_world.specs.declared.turn.Turn.TheVariants as turns;
+
+use crate::built::is_built;
+use crate::failing::{Failing, fail_next};
+use crate::jobs::{Job, Offered};
+use crate::seats::{Seat, Task, forget_all, is_idle, put_in};
+use crate::turn::Turn;
+use cache_types::{Bytes, Name, NoMemory, Request, Text, Who};
+use file_model::World;
+use std::alloc::Global;
+
+/// What a schedule has come to: the world, the busy seats, the failures that wait for calls, and the jobs
+/// that wait in queues.
+#[derive(Debug, Drop)]
+pub struct Stage {
+    pub world: World,
+    pub seats: Vec<Seat>,
+    pub failing: Vec<Failing>,
+    pub jobs: Vec<Job>,
+    pub offered: Vec<Offered>,
+}
+
+/// The same bytes in memory of their own, where there are any.
+fn copy_text(text: &Option<Bytes>) -> Result<Option<Bytes>, NoMemory>
+    ensures { IfOk result (λ t. t ≡ text.now) }
+{
+    match text {
+        None => Ok(None),
+        Some(text) => Ok(Some(text.copy()?)),
+    }
+}
+
+impl Stage {
+    ghost use Rattle.sim_world.specs.Stages.{InOrder, scene_of};
+
+    /// A new world, with nothing under way. Takes no memory.
+    pub fn new(alloc: Global) -> Stage
+        ensures order { InOrder result }
+        ensures scene { scene_of result ≡ opening }
+    {
+        Stage {
+            world: World::new(alloc),
+            seats: Vec::new(alloc),
+            failing: Vec::new(alloc),
+            jobs: Vec::new(alloc),
+            offered: Vec::new(alloc),
+        }
+    }
+
+    /// Plays one turn.
+    pub fn turn(&mut self, turn: &Turn) -> Result<(), NoMemory>
+        requires { InOrder self.old }
+        ensures order { InOrder self.new }
+        ensures plays { OnOk result (Plays (scene_of self.old) turn.now (scene_of self.new)) }
+    {
+        match turn {
+            Turn::Start { who, request } => self.start(*who, request),
+            Turn::Step { who } => self.step(*who),
+            Turn::Fail { who, memory } => self.fail(*who, *memory),
+            Turn::Offer { process, request } => self.offer(*process, request),
+            Turn::Take { who } => self.take(*who),
+            Turn::Stop { process } => self.stop(*process),
+            Turn::Install {
+                root,
+                name,
+                main,
+                index,
+            } => self.install(*root, name, main, index),
+            Turn::SetList { text } => self.set_list(text),
+            Turn::Clock { now } => self.set_clock(*now),
+            Turn::Own => Ok(()),
+        }
+    }
+
+    /// Whether a process wasn't stopped.
+    pub fn goes_on(&self, process: u32) -> bool
+        requires { InOrder self.now }
+        ensures scene { IsTrue result ↔ GoesOn (scene_of self.now) process }
+        ensures world { IsTrue result ↔ ((state_of self.now.world.past).halted process ≡ false) }
+    {
+        !self.world.is_halted(process)
+    }
+
+    /// Whether a seat of a process that goes on is at nothing.
+    pub fn is_free(&self, who: Who) -> bool
+        requires { InOrder self.now }
+        ensures { IsTrue result ↔ IsFree (scene_of self.now) who }
+    {
+        self.goes_on(who.process) && is_idle(&self.seats, who)
+    }
+
+    /// Whether a seat can be given a request.
+    fn may_start(&self, who: Who, request: &Request) -> bool
+        requires { InOrder self.now }
+        ensures { IsTrue result ↔ (IsFree (scene_of self.now) who × IsBuilt request.now) }
+    {
+        self.is_free(who) && is_built(request)
+    }
+
+    /// Gives a request to a seat that is at nothing.
+    fn start(&mut self, who: Who, request: &Request) -> Result<(), NoMemory>
+        requires { InOrder self.old }
+        ensures order { InOrder self.new }
+        ensures plays { OnOk result (Plays (scene_of self.old) (turns.Start who request.now) (scene_of self.new)) }
+    {
+        if !self.may_start(who, request) {
+            return Ok(());
+        }
+        let request = request.copy(self.world.alloc())?;
+        self.seats.reserve(1)?;
+        put_in(&mut self.seats, who, Some(Task::Asked(request)));
+        Ok(())
+    }
+
+    /// Lets a seat's next call fail.
+    fn fail(&mut self, who: Who, memory: bool) -> Result<(), NoMemory>
+        requires { InOrder self.old }
+        ensures order { InOrder self.new }
+        ensures plays { OnOk result (Plays (scene_of self.old) (turns.Fail who memory) (scene_of self.new)) }
+    {
+        if !self.goes_on(who.process) {
+            return Ok(());
+        }
+        fail_next(&mut self.failing, who, memory)
+    }
+
+    /// Stops a process.
+    fn stop(&mut self, process: u32) -> Result<(), NoMemory>
+        requires { InOrder self.old }
+        ensures order { InOrder self.new }
+        ensures plays { OnOk result (Plays (scene_of self.old) (turns.Stop process) (scene_of self.new)) }
+    {
+        if !self.goes_on(process) {
+            return Ok(());
+        }
+        self.world.stop(process)?;
+        forget_all(&mut self.seats, process);
+        Ok(())
+    }
+
+    /// Whether no file has either name of a read-only database.
+    fn is_absent(&self, root: u32, name: &Text) -> Result<bool, NoMemory>
+        ensures { IfOk result (λ absent. IsTrue absent ↔ (((disk_of self.now.world.past).names (Ro root name.now) ≡ None) × ((disk_of self.now.world.past).names (RoIdx root name.now) ≡ None))) }
+    {
+        let main = Name::Ro {
+            root,
+            name: name.copy()?,
+        };
+        let index = Name::RoIdx {
+            root,
+            name: name.copy()?,
+        };
+        Ok(self.world.tables().lacks(&main) && self.world.tables().lacks(&index))
+    }
+
+    /// Brings a read-only database.
+    fn install(
+        &mut self,
+        root: u32,
+        name: &Text,
+        main: &Bytes,
+        index: &Bytes,
+    ) -> Result<(), NoMemory>
+        requires { InOrder self.old }
+        ensures order { InOrder self.new }
+        ensures plays { OnOk result (Plays (scene_of self.old) (turns.Install root name.now main.now index.now) (scene_of self.new)) }
+    {
+        let absent = self.is_absent(root, name)?;
+        if !absent {
+            return Ok(());
+        }
+        let name = name.copy()?;
+        let main = main.copy()?;
+        let index = index.copy()?;
+        self.world.install(root, name, main, index)
+    }
+
+    /// Sets the list of read-only databases.
+    fn set_list(&mut self, text: &Option<Bytes>) -> Result<(), NoMemory>
+        requires { InOrder self.old }
+        ensures order { InOrder self.new }
+        ensures plays { OnOk result (Plays (scene_of self.old) (turns.SetList text.now) (scene_of self.new)) }
+    {
+        let text = copy_text(text)?;
+        self.world.set_list(text)
+    }
+
+    /// Sets the clock.
+    fn set_clock(&mut self, now: u64) -> Result<(), NoMemory>
+        requires { InOrder self.old }
+        ensures order { InOrder self.new }
+        ensures plays { OnOk result (Plays (scene_of self.old) (turns.Clock now) (scene_of self.new)) }
+    {
+        self.world.set_clock(now);
+        Ok(())
+    }
+}
