@@ -5,3 +5,5 @@ pub mod Stepping
 pub mod Scenes
 pub mod Advancing
 pub mod Turning
+pub mod Schedules
+pub mod Moving

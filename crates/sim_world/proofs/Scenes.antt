@@ -64,8 +64,8 @@ abbrev Fated : Call → Option Bool → Progress → Type 0
 Fated call failing progress = IsFated (fate_of call failing) true call progress
 
 not_both : (progress : Progress) → (progress ≡ progresses.Reply replies.Failed → ⊥) → HasFailed true progress → ⊥
-not_both progress no (inl e) = no e
-not_both progress no (inr e) = let clash : true ≡ false = e.0 in absurd cc
+not_both progress never (inl e) = never e
+not_both progress never (inr e) = let clash : true ≡ false = e.0 in absurd cc
 
 by_fate : (call : Call) (failing : Option Bool) (progress : Progress) → MayFail call → IsFated (fate_for failing) true call progress → (MayFail call → (fate_for failing ≡ fates.NoMemory) → progress ≡ progresses.Reply replies.NoMemory)
     → (progress ≡ progresses.Reply replies.Failed → ⊥) → (progress ≡ progresses.Reply replies.NoMemory → ⊥) → failing ≡ None
@@ -118,7 +118,7 @@ go_none call = refl
 go_passing : (call : Call) (failing : Option Bool) → PassesBy call ⊎ (failing ≡ None) → fate_of call failing ≡ fates.Go
 go_passing (calls.Close slot) failing p = refl
 go_passing (calls.Tell note) failing p = refl
-go_passing call failing (inl no) = absurd no
+go_passing call failing (inl never) = absurd never
 go_passing call failing (inr e) = ap (λ (f : Option Bool). fate_of call f) e ∙ go_none call
 
 -- a call that was made brought its item
@@ -154,7 +154,7 @@ wrote : (who : Who) (scene : Scene) (failing : Option Bool) (slot at value : ℕ
 wrote who scene failing slot at value none = record { item = items.Byte who slot at value; news_are = refl; own_item = seat_self who; may_come = none; plain = refl }
 
 only_none : (failing : Option Bool) → ⊥ ⊎ (failing ≡ None) → failing ≡ None
-only_none failing (inl no) = absurd no
+only_none failing (inl never) = absurd never
 only_none failing (inr e) = e
 
 -- a call whose reply is none of a Tell's
@@ -165,7 +165,7 @@ NoTell call = Unit {0}
 passes_so : (call : Call) (failing : Option Bool) → NoTell call → PassesBy call ⊎ (failing ≡ None) → NeverFails call ⊎ (failing ≡ None)
 passes_so (calls.Close slot) failing fits p = inl tt
 passes_so (calls.Tell note) failing fits p = absurd fits
-passes_so call failing fits (inl no) = absurd no
+passes_so call failing fits (inl never) = absurd never
 passes_so call failing fits (inr e) = inr e
 
 no_missing : (call : Call) → Answers true call replies.Missing → NoTell call

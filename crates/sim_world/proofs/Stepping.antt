@@ -75,7 +75,7 @@ refused_leaves : (who : Who) (call : Call) (s : State) → Leaves s (fold after 
 refused_leaves who (calls.Tell note) s = leaves_none s
 refused_leaves who call s = record { halted = λ p. refl; waiting = λ p. refl; used = λ p. refl }
 
-step_leaves : (who : Who) (progress : Progress) (call : Call) (done : ℕ) (s : State) → Leaves s (fold after s (step_items progress who true call done))
+pub step_leaves : (who : Who) (progress : Progress) (call : Call) (done : ℕ) (s : State) → Leaves s (fold after s (step_items progress who true call done))
 step_leaves who progresses.More call done s = byte_leaves who call done s
 step_leaves who (progresses.Reply replies.Done) call done s = done_leaves who call done s
 step_leaves who (progresses.Reply replies.Failed) call done s = record { halted = λ p. refl; waiting = λ p. refl; used = λ p. refl }
@@ -85,7 +85,7 @@ step_leaves who (progresses.Reply reply) call done s = record { halted = λ p. r
 pub state_told : (w : Held) (news : List LogItem) → state_of (told w news).past ≡ fold after (state_of w.past) news
 state_told w news = fold-append after (first w.past.start) w.past.log news
 
-leaves_told : (w w' : Held) (news : List LogItem) → w' ≡ told w news → Leaves (state_of w.past) (fold after (state_of w.past) news) → Leaves (state_of w.past) (state_of w'.past)
+pub leaves_told : (w w' : Held) (news : List LogItem) → w' ≡ told w news → Leaves (state_of w.past) (fold after (state_of w.past) news) → Leaves (state_of w.past) (state_of w'.past)
 leaves_told w w' news e leaves = subst (λ (x : Held). Leaves (state_of w.past) (state_of x.past)) (sym e) (subst (Leaves (state_of w.past)) (sym (state_told w news)) leaves)
 
 pub jobs_stay : (s s' : State) (jobs : List Job) (offered : List Offered) → Leaves s s' → AreJobs s jobs offered → AreJobs s' jobs offered
@@ -93,13 +93,13 @@ jobs_stay s s' jobs offered leaves j = record {
   tickets = λ p. leaves.waiting p ∙ j.tickets p;
   fit = j.fit;
   count = λ p. j.count p ∙ ap length (sym (leaves.used p));
-  lower = λ p. subst (λ tickets. (ticket : Ticket) → Contains tickets ticket → ticket.number < length tickets) (sym (leaves.used p)) (j.lower p);
+  lower = λ p. subst (λ (tickets : List Ticket). (ticket : Ticket) → Contains tickets ticket → ticket.number < length tickets) (sym (leaves.used p)) (j.lower p);
 }
 
 -- ---- a step
 
 module _ (who : Who) (w w' : Held) (seats seats' : List Seat) (moved : Moved) (a : AreSeated w seats) (goes : (state_of w.past).halted who.process ≡ false) (changes : Changes who moved.task seats seats') (once : Once seats') where
-  abbrev log : List LogItem
+  abbrev pub log : List LogItem
   log = w.past.log
 
   others : OnlyMoves who (seats_at seats) (seats_at seats')
@@ -125,7 +125,7 @@ module _ (who : Who) (w w' : Held) (seats seats' : List Seat) (moved : Moved) (a
     fits = fit_now task e fits;
   })
 
-  begin_seated : (request : Request) → task_of seats who ≡ Some (tasks.Asked request) → Begins who request w w' moved → AreSeated w' seats'
+  pub begin_seated : (request : Request) → task_of seats who ≡ Some (tasks.Asked request) → Begins who request w w' moved → AreSeated w' seats'
   begin_seated request at b =
       let x : LogItem = items.Begin who request in
       let task : Option Task = Some (tasks.Begun b.operation) in
@@ -144,7 +144,7 @@ module _ (who : Who) (w w' : Held) (seats seats' : List Seat) (moved : Moved) (a
   same_by task v true e at = sym (ap (task_of seats) (same_seat-true v who e) ∙ at)
   same_by task v false e at = refl
 
-  wait_seated : (request : Request) → task_of seats who ≡ Some (tasks.Asked request) → Waits request w w' moved → AreSeated w' seats'
+  pub wait_seated : (request : Request) → task_of seats who ≡ Some (tasks.Asked request) → Waits request w w' moved → AreSeated w' seats'
   wait_seated request at x =
       let task : Option Task = Some (tasks.Asked request) in
       let e : moved.task ≡ task = ap (λ (m : Moved). m.task) x.moved_is in
@@ -157,7 +157,7 @@ module _ (who : Who) (w w' : Held) (seats seats' : List Seat) (moved : Moved) (a
         fits = λ v. subst IsFit (sym (same v)) (a.fits v);
       })
 
-  end_seated : (given : Answer) → Stands who (Where.Ending given) (past log) → Ends who given w w' moved → AreSeated w' seats'
+  pub end_seated : (given : Answer) → Stands who (Where.Ending given) (past log) → Ends who given w w' moved → AreSeated w' seats'
   end_seated given s x =
       let item : LogItem = items.End who x.answer in
       let e : moved.task ≡ None = ap (λ (m : Moved). m.task) x.moved_is in
@@ -167,10 +167,10 @@ module _ (who : Who) (w w' : Held) (seats seats' : List Seat) (moved : Moved) (a
       (own_items_come who (seats_at seats) (seats_at seats') log (item ∷ []) a.orderly (seat_self who, tt) (can, tt) (ended.0, tt) (stands_now None (with_item (past log) item) e ended.1) others)
 
   -- what a step tells while its operation is open
-  abbrev news : Progress → Call → ℕ → List LogItem
+  abbrev pub news : Progress → Call → ℕ → List LogItem
   news progress call done = step_items progress who true call done
 
-  told_inside : (progress : Progress) (call : Call) (done : ℕ) → is_inside who w ≡ true → Stepped who call done progress w w' → w' ≡ told w (news progress call done)
+  pub told_inside : (progress : Progress) (call : Call) (done : ℕ) → is_inside who w ≡ true → Stepped who call done progress w w' → w' ≡ told w (news progress call done)
   told_inside progress call done inside s = subst (λ (b : Bool). w' ≡ told w (step_items progress who b call done)) inside s.items
 
   legal_inside : (progress : Progress) (call : Call) (done : ℕ) → is_inside who w ≡ true → Stepped who call done progress w w' → Legal (state_of w.past) (news progress call done)
@@ -209,7 +209,7 @@ module _ (who : Who) (w w' : Held) (seats seats' : List Seat) (moved : Moved) (a
       let now : Stands who (where_of (Some (tasks.Begun operation))) (past log') = subst (λ (o : Operation). Stands who (where_of (Some (tasks.Begun o))) (past log')) (sym to.2) wants in
       (mid.0, seat_changes who (between m) (seats_at seats') log' mid.1 (stands_now (Some (tasks.Begun operation)) (past log') e now) (from_between m))
 
-  ask_seated : (n : Op) (call : Call) (done : ℕ) (failing : Option Bool) → seats_at seats who ≡ Where.Within n call done → is_inside who w ≡ true → Asks who n call done failing w w' moved → AreSeated w' seats'
+  pub ask_seated : (n : Op) (call : Call) (done : ℕ) (failing : Option Bool) → seats_at seats who ≡ Where.Within n call done → is_inside who w ≡ true → Asks who n call done failing w w' moved → AreSeated w' seats'
   ask_seated n call done failing at inside x =
       let e : moved.task ≡ Some (tasks.Begun x.operation) = ap (λ (m : Moved). m.task) x.moved_is in
       let orderly = orderly_by n call done x.progress x.operation at inside x.stepped x.goes_to e in

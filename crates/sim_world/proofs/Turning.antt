@@ -4,6 +4,7 @@ use Rattle.std.specs.Prelude.{is_none, option_map}
 use Rattle.std.specs.List.{Contains, AllByRecursion}
 use Rattle.std.proofs.lemmas.Bool.{false≢true, eqb-true, eq-eqb}
 use Rattle.std.proofs.lemmas.List.Sums.{fold-append}
+use Rattle.cache_types.specs.declared.name.Name.TheVariants.{Ro, RoIdx}
 use Rattle.cache_types.specs.declared.request.Request.{Request}
 use Rattle.cache_types.specs.declared.seat.Who.{Who}
 use Rattle.cache_types.specs.Seats.{same_seat}
@@ -39,7 +40,7 @@ use Rattle.sim_world.proofs.Stepping.{state_told}
 -- ---- turns that apply, and others
 
 pub turn_passed : {P Q : Type 0} (old : Scene) → (P → ⊥) → Turns P old old Q
-turn_passed old no = record { applied = λ p. absurd (no p); passed = λ none. refl }
+turn_passed old never = record { applied = λ p. absurd (never p); passed = λ none. refl }
 
 pub turn_applied : {P Q : Type 0} (old new : Scene) → P → Q → Turns P old new Q
 turn_applied old new p does = record { applied = λ again. does; passed = λ none. absurd (none p) }
@@ -62,8 +63,8 @@ first_scene w e = ap (λ (v : Held). scene_from v [] [] []) e
 -- ---- tests
 
 not_decides : (h x : Bool) → h ≡ x → IsTrue (not h) ↔ (x ≡ false)
-not_decides true x e = (λ clash. absurd cc, λ no. absurd (false≢true (sym no ∙ sym e)))
-not_decides false x e = (λ yes. sym e, λ no. refl)
+not_decides true x e = (λ clash. absurd cc, λ never. absurd (false≢true (sym never ∙ sym e)))
+not_decides false x e = (λ yes. sym e, λ never. refl)
 
 pub goes_on_decides : (w : Held) (p : ℕ) (h : Bool) → h ≡ (state_of w.past).halted p → IsTrue (not h) ↔ ((state_of w.past).halted p ≡ false)
 goes_on_decides w p h e = not_decides h _ e
@@ -117,7 +118,7 @@ jobs_same s s' jobs offered waiting used j = record {
   tickets = λ p. waiting p ∙ j.tickets p;
   fit = j.fit;
   count = λ p. j.count p ∙ ap length (sym (used p));
-  lower = λ p. subst (λ tickets. (ticket : Ticket) → Contains tickets ticket → ticket.number < length tickets) (sym (used p)) (j.lower p);
+  lower = λ p. subst (λ (tickets : List Ticket). (ticket : Ticket) → Contains tickets ticket → ticket.number < length tickets) (sym (used p)) (j.lower p);
 }
 
 -- after an item that is neither a Queued nor a Taken
@@ -329,3 +330,41 @@ taken_scene w seats failing who job jobs jobs' e left =
 pub none_taken : (old : Scene) (who : Who) (jobs : List Waiting) → None ≡ option_map (λ (x : Waiting). x.ticket) (front jobs) → old ≡ taken old who jobs
 none_taken old who [] e = refl
 none_taken old who (x ∷ jobs) e = absurd cc
+
+-- ---- a world that told an item of no seat
+
+-- an item that leaves the queues as they are
+abbrev pub LeavesQueues : LogItem → Type 0
+LeavesQueues (items.Queued p ticket request) = ⊥
+LeavesQueues (items.Taken who ticket) = ⊥
+LeavesQueues x = Unit {0}
+
+queues_wait : (s : State) (x : LogItem) → LeavesQueues x → (p : ℕ) → (after s x).waiting p ≡ s.waiting p
+queues_wait s (items.Queued p' ticket request) leaves p = absurd leaves
+queues_wait s (items.Taken who ticket) leaves p = absurd leaves
+queues_wait s x leaves p = refl
+
+queues_used : (s : State) (x : LogItem) → LeavesQueues x → (p : ℕ) → (after s x).used p ≡ s.used p
+queues_used s (items.Queued p' ticket request) leaves p = absurd leaves
+queues_used s x leaves p = refl
+
+pub unseated_jobs : (w w' : Held) (x : LogItem) (jobs : List Job) (offered' : List Offered) → w' ≡ held.told w (x ∷ []) → LeavesQueues x → AreJobs (state_of w.past) jobs offered' → AreJobs (state_of w'.past) jobs offered'
+unseated_jobs w w' x jobs offered' e leaves j =
+    subst (λ (v : Held). AreJobs (state_of v.past) jobs offered') (sym e) (jobs_told w x jobs offered' (queues_wait (state_of w.past) x leaves) (queues_used (state_of w.past) x leaves) j)
+
+pub unseated_now : (w w' : Held) (seats : List Seat) (x : LogItem) → AreSeated w seats → w' ≡ held.told w (x ∷ []) → seat_of x ≡ None → IsLegal (state_of w.past) x → AreSeated w' seats
+unseated_now w w' seats x a e none legal = subst (λ (v : Held). AreSeated v seats) (sym e) (unseated_seated w seats x a none legal)
+
+pub unseated_scene : (w w' : Held) (seats : List Seat) (failing : List Failing) (jobs : List Job) (x : LogItem) → w' ≡ held.told w (x ∷ []) → scene_from w' seats failing jobs ≡ told (scene_from w seats failing jobs) x
+unseated_scene w w' seats failing jobs x e = ap (λ (v : Held). scene_from v seats failing jobs) e
+
+-- ---- a read-only database
+
+-- no file has either name, as the world's disk has it and as the scene does
+pub absent_scene : (w : Held) (seats : List Seat) (failing : List Failing) (jobs : List Job) (root : ℕ) (name : List ℕ) → w.past.start ≡ []
+    → (IsAbsent (scene_from w seats failing jobs) root name → ((state_of w.past).disk.names (Ro root name) ≡ None) × ((state_of w.past).disk.names (RoIdx root name) ≡ None))
+    × (((state_of w.past).disk.names (Ro root name) ≡ None) × ((state_of w.past).disk.names (RoIdx root name) ≡ None) → IsAbsent (scene_from w seats failing jobs) root name)
+absent_scene w seats failing jobs root name start =
+    let e = state_is w start in
+    let Names : State → Type 0 = λ s. (s.disk.names (Ro root name) ≡ None) × (s.disk.names (RoIdx root name) ≡ None) in
+    (λ there. subst Names (sym e) there, λ here. subst Names e here)
