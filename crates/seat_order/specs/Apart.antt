@@ -1,0 +1,26 @@
+-- A log of all seats in which some seats are set apart: they may do whatever they may, and the others follow their machines.
+use Rattle.std.specs.Prelude.{◌≡◌, false, Bool, List}
+use Rattle.cache_types.specs.declared.seat.Who.{Who}
+use Rattle.file_log.specs.declared.item.LogItem.{LogItem}
+use Rattle.file_log.specs.State.{state_of}
+use Rattle.folder_rules.specs.Places.{past, Cooperating, KeepsBy}
+use Rattle.folder_changes.specs.Order.{InOrder}
+use Rattle.op_machine.specs.Places.{Where}
+use Rattle.op_machine.proofs.Standing.{Stands}
+use Rattle.seat_order.specs.Ready.{IsReady}
+
+-- the seat's process wasn't stopped
+abbrev pub GoesOn : List LogItem → Who → Type 0
+GoesOn log who = (state_of (past log)).halted who.process ≡ false
+
+-- the seat is ready there, and while no place breaks a rule it stands there
+pub record IsAt (who : Who) (place : Where) (log : List LogItem) : Type 0 where
+  pub ready : IsReady who place (past log)
+  pub stand : Cooperating log → Stands who place (past log)
+
+-- Each seat that isn't set apart never is the first to break a rule, and while its process goes on it is where it is said to be. While no
+-- place breaks a rule, all is in order.
+pub record IsOrderlyBut (apart : Who → Bool) (seats : Who → Where) (log : List LogItem) : Type 0 where
+  pub keep : (who : Who) → apart who ≡ false → KeepsBy who log
+  pub there : (who : Who) → apart who ≡ false → GoesOn log who → IsAt who (seats who) log
+  pub order : Cooperating log → InOrder (past log)
