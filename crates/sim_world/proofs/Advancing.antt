@@ -21,8 +21,8 @@ use Rattle.folder_rules.specs.Places.{past}
 use Rattle.op_machine.specs.declared.op.Op.{Op}
 use Rattle.op_machine.specs.Machine.{asks, slots, hurt, allowed}
 use Rattle.op_machine.specs.Places.{Where}
-use Rattle.op_machine.proofs.Standing as standing
-use Rattle.op_machine.proofs.Standing.{Stands}
+use Rattle.seat_order.specs.Apart.{IsAt}
+use Rattle.seat_order.proofs.Readying.{ready_inside}
 use Rattle.world_tables.proofs.Finds.{same_seat-true}
 use Rattle.sim_world.specs.declared.failing.Failing.{Failing}
 use Rattle.sim_world.specs.declared.jobs.Job.{Job}
@@ -43,36 +43,36 @@ use Rattle.sim_world.proofs.Ordered.{state_is, Changes}
 use Rattle.sim_world.proofs.Stepping.{Leaves, step_leaves, leaves_told, jobs_stay, begin_seated, wait_seated, end_seated, ask_seated, told_inside}
 use Rattle.sim_world.proofs.Scenes.{same_scene, activity_then, Tells, Fails, call_told}
 
-module _ (who : Who) (w w' : Held) (seats seats' : List Seat) (moved : Moved) (a : AreSeated w seats) (goes : (state_of w.past).halted who.process ≡ false) (changes : Changes who moved.task seats seats') (once : Once seats') where
+module _ {apart : Who → Bool} (who : Who) (w w' : Held) (seats seats' : List Seat) (moved : Moved) (a : AreSeated apart w seats) (known : apart who ≡ false) (goes : (state_of w.past).halted who.process ≡ false) (changes : Changes who moved.task seats seats') (once : Once seats') where
   alive : (state_of (past w.past.log)).halted who.process ≡ false
   alive = sym (ap (λ (s : State). s.halted who.process) (state_is w a.start)) ∙ goes
 
-  stands_there : (place : Where) → seats_at seats who ≡ place → Stands who place (past w.past.log)
-  stands_there place at = subst (λ (p : Where). Stands who p (past w.past.log)) at (a.orderly.stand who alive)
+  stands_there : (place : Where) → seats_at seats who ≡ place → IsAt who place w.past.log
+  stands_there place at = subst (λ (p : Where). IsAt who p w.past.log) at (a.orderly.there who known alive)
 
   inside_there : (n : Op) (call : Call) (done : ℕ) → seats_at seats who ≡ Where.Within n call done → is_inside who w ≡ true
-  inside_there n call done at = standing.is_inside who n call done (past w.past.log) (stands_there (Where.Within n call done) at)
+  inside_there n call done at = ready_inside who n call done (past w.past.log) (stands_there (Where.Within n call done) at).ready
 
   -- a call that a machine asks for within its operation is no Begin and no End
   within_there : (n : Op) (call : Call) (done : ℕ) → seats_at seats who ≡ Where.Within n call done → IsWithin call
   within_there n call done at =
-      let s = stands_there (Where.Within n call done) at in
-      (subst (Allows (slots s.m) (hurt s.m)) s.making.asks_so (allowed s.m)).1
+      let s = (stands_there (Where.Within n call done) at).ready in
+      (subst (Allows (slots s.m) (hurt s.m)) s.asks_so (allowed s.m)).1
 
-  goes_seated : (step : Step) (n : Op) (done : ℕ) (failing : Option Bool) → seats_at seats who ≡ where_in step n done → Goes who step n done failing w w' moved → AreSeated w' seats'
-  goes_seated (Ask call) n done failing at x = ask_seated who w w' seats seats' moved a goes changes once n call done failing at (inside_there n call done at) x
-  goes_seated (Done given) n done failing at x = end_seated who w w' seats seats' moved a goes changes once given (stands_there (Where.Ending given) at) x
+  goes_seated : (step : Step) (n : Op) (done : ℕ) (failing : Option Bool) → seats_at seats who ≡ where_in step n done → Goes who step n done failing w w' moved → AreSeated apart w' seats'
+  goes_seated (Ask call) n done failing at x = ask_seated who w w' seats seats' moved a known goes changes once n call done failing at (inside_there n call done at) x
+  goes_seated (Done given) n done failing at x = end_seated who w w' seats seats' moved a known goes changes once given (stands_there (Where.Ending given) at) x
 
   -- all stand after a step
-  pub advance_seated : (task : Task) (failing : Option Bool) → task_of seats who ≡ Some task → Advances who task failing w w' moved → AreSeated w' seats'
-  advance_seated (tasks.Asked request) failing at (inl x) = begin_seated who w w' seats seats' moved a goes changes once request at x
-  advance_seated (tasks.Asked request) failing at (inr x) = wait_seated who w w' seats seats' moved a goes changes once request at x
+  pub advance_seated : (task : Task) (failing : Option Bool) → task_of seats who ≡ Some task → Advances who task failing w w' moved → AreSeated apart w' seats'
+  advance_seated (tasks.Asked request) failing at (inl x) = begin_seated who w w' seats seats' moved a known goes changes once request at x
+  advance_seated (tasks.Asked request) failing at (inr x) = wait_seated who w w' seats seats' moved a known goes changes once request at x
   advance_seated (tasks.Begun operation) failing at x = goes_seated operation.wants operation.machine operation.done failing (ap where_of at) x
 
   goes_jobs : (step : Step) (n : Op) (done : ℕ) (failing : Option Bool) (jobs : List Job) (offered : List Offered) → seats_at seats who ≡ where_in step n done → Goes who step n done failing w w' moved → AreJobs (state_of w.past) jobs offered → AreJobs (state_of w'.past) jobs offered
   goes_jobs (Ask call) n done failing jobs offered at x j =
       jobs_stay (state_of w.past) (state_of w'.past) jobs offered
-      (leaves_told w w' (step_items x.progress who true call done) (told_inside who w w' seats seats' moved a goes changes once x.progress call done (inside_there n call done at) x.stepped) (step_leaves who x.progress call done (state_of w.past))) j
+      (leaves_told w w' (step_items x.progress who true call done) (told_inside who w w' seats seats' moved a known goes changes once x.progress call done (inside_there n call done at) x.stepped) (step_leaves who x.progress true call done (state_of w.past))) j
   goes_jobs (Done given) n done failing jobs offered at x j =
       jobs_stay (state_of w.past) (state_of w'.past) jobs offered (leaves_told w w' (items.End who x.answer ∷ []) x.told_is (record { halted = λ p. refl; waiting = λ p. refl; used = λ p. refl })) j
 
@@ -158,7 +158,7 @@ module _ (who : Who) (w w' : Held) (seats seats' : List Seat) (moved : Moved) (a
         let is_in : is_inside who w ≡ true = inside_there n call done at in
         let fits : StepFits x.progress true call done = subst (λ (b : Bool). StepFits x.progress b call done) is_in x.stepped.fits in
         let fated : IsFated (fate_of call (failing_of failing who)) true call x.progress = subst (λ (b : Bool). IsFated (fate_of call (failing_of failing who)) b call x.progress) is_in x.fated in
-        let told_is = told_inside who w w' seats seats' moved a goes changes once x.progress call done is_in x.stepped in
+        let told_is = told_inside who w w' seats seats' moved a known goes changes once x.progress call done is_in x.stepped in
         let task : moved.task ≡ Some (tasks.Begun x.operation) = ap (λ (m : Moved). m.task) x.moved_is in
         let brought_is : moved.brought ≡ brought_by (fate_of call (failing_of failing who)) x.progress = ap (λ (m : Moved). m.brought) x.moved_is in
         elim (call_told who old (failing_of failing who) x.progress call done (within_there n call done at) fated fits x.clock (subst IsBrought brought_is brought)) [

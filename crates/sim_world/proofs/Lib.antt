@@ -7,3 +7,5 @@ pub mod Advancing
 pub mod Turning
 pub mod Schedules
 pub mod Moving
+pub mod Passing
+pub mod Owning

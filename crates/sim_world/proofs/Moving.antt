@@ -16,7 +16,8 @@ use Rattle.sim_world.specs.Scene.{Activity}
 use Rattle.sim_world.specs.Stages.{activity_of, where_of, seats_at, IsFit, scene_from, AreSeated, AreJobs}
 use Rattle.sim_world.specs.Steps.{Advances, IsBrought, is_failure}
 use Rattle.sim_world.specs.Tables.{task_of, Once, failing_of, seats_with}
-use Rattle.sim_world.proofs.Ordered.{Changes, put_back, once_back, stopped_orderly}
+use Rattle.seat_order.proofs.Coming.{stopped_move}
+use Rattle.sim_world.proofs.Ordered.{Changes, put_back, once_back}
 use Rattle.sim_world.proofs.Scenes.{same_scene}
 use Rattle.sim_world.proofs.Advancing.{advance_seated, advance_jobs, advance_plays}
 
@@ -24,23 +25,23 @@ use Rattle.sim_world.proofs.Advancing.{advance_seated, advance_jobs, advance_pla
 abbrev pub TakesOut : Who → List Seat → List Seat → Type 0
 TakesOut who seats out = (v : Who) → task_of out v ≡ cond (same_seat v who) None (task_of seats v)
 
-module _ (who : Who) (w w' : Held) (seats out seats' : List Seat) (task : Task) (moved : Moved) (a : AreSeated w seats) (goes : (state_of w.past).halted who.process ≡ false) (at : Some task ≡ task_of seats who) (taken : TakesOut who seats out) (once : Once out) (put : seats' ≡ seats_with who moved.task out) where
+module _ {apart : Who → Bool} (who : Who) (w w' : Held) (seats out seats' : List Seat) (task : Task) (moved : Moved) (a : AreSeated apart w seats) (known : apart who ≡ false) (goes : (state_of w.past).halted who.process ≡ false) (at : Some task ≡ task_of seats who) (taken : TakesOut who seats out) (once : Once out) (put : seats' ≡ seats_with who moved.task out) where
   back : Changes who moved.task seats seats'
   back = subst (Changes who moved.task seats) (sym put) (put_back who moved.task seats out taken)
 
   once_now : Once seats'
   once_now = subst Once (sym put) (once_back who moved.task seats out taken once)
 
-  pub moved_seated : (failing : Option Bool) → Advances who task failing w w' moved → AreSeated w' seats'
-  moved_seated failing x = advance_seated who w w' seats seats' moved a goes back once_now task failing (sym at) x
+  pub moved_seated : (failing : Option Bool) → Advances who task failing w w' moved → AreSeated apart w' seats'
+  moved_seated failing x = advance_seated who w w' seats seats' moved a known goes back once_now task failing (sym at) x
 
   pub moved_jobs : (failing : Option Bool) (jobs : List Job) (offered : List Offered) → Advances who task failing w w' moved → AreJobs (state_of w.past) jobs offered → AreJobs (state_of w'.past) jobs offered
-  moved_jobs failing jobs offered x j = advance_jobs who w w' seats seats' moved a goes back once_now task failing jobs offered (sym at) x j
+  moved_jobs failing jobs offered x j = advance_jobs who w w' seats seats' moved a known goes back once_now task failing jobs offered (sym at) x j
 
   pub moved_plays : (failing failing' : List Failing) (jobs : List Job) (waits : Option Bool) → waits ≡ failing_of failing who → ((v : Who) → failing_of failing' v ≡ cond (is_failure moved.brought && same_seat v who) None (failing_of failing v)) → IsBrought moved.brought
       → Advances who task waits w w' moved → Steps (scene_from w seats failing jobs) who ((scene_from w seats failing jobs).seats who) (scene_from w' seats' failing' jobs)
   moved_plays failing failing' jobs waits is settled brought x =
-      advance_plays who w w' seats seats' moved a goes back once_now failing failing' jobs settled task (sym at) brought (subst (λ (f : Option Bool). Advances who task f w w' moved) is x)
+      advance_plays who w w' seats seats' moved a known goes back once_now failing failing' jobs settled task (sym at) brought (subst (λ (f : Option Bool). Advances who task f w w' moved) is x)
 
 -- ---- a seat that is at nothing
 
@@ -51,11 +52,11 @@ same_by seats who v false e none = refl
 pub none_out : (who : Who) (seats out : List Seat) → None ≡ task_of seats who → TakesOut who seats out → (v : Who) → task_of out v ≡ task_of seats v
 none_out who seats out none taken v = taken v ∙ same_by seats who v (same_seat v who) refl none
 
-pub idle_seated : (who : Who) (w : Held) (seats out : List Seat) → AreSeated w seats → None ≡ task_of seats who → TakesOut who seats out → Once out → AreSeated w out
-idle_seated who w seats out a none taken once = record {
+pub idle_seated : {apart : Who → Bool} (who : Who) (w : Held) (seats out : List Seat) → AreSeated apart w seats → None ≡ task_of seats who → TakesOut who seats out → Once out → AreSeated apart w out
+idle_seated {apart = apart} who w seats out a none taken once = record {
   start = a.start;
   legal = a.legal;
-  orderly = stopped_orderly (seats_at seats) (seats_at out) w.past.log (λ v alive. ap where_of (none_out who seats out none taken v)) a.orderly;
+  orderly = stopped_move apart (seats_at seats) (seats_at out) w.past.log (λ v alive. ap where_of (none_out who seats out none taken v)) a.orderly;
   once = once;
   fits = λ v. subst IsFit (sym (none_out who seats out none taken v)) (a.fits v);
 }

@@ -24,8 +24,12 @@ use Rattle.folder_rules.specs.Rules.{KeepsRules}
 use Rattle.op_machine.specs.declared.op.Op.{Op}
 use Rattle.op_machine.specs.Machine.{asks, asked}
 use Rattle.op_machine.specs.Places.{Where}
-use Rattle.op_machine.proofs.Standing.{Stands, asks_call, gives_answer, may_call, is_place, ending_inside}
-use Rattle.op_machine.proofs.Orderly.{IsOrderly, OnlyMoves, unseated_comes, orderly_at_first}
+use Rattle.op_machine.proofs.Orderly.{OnlyMoves}
+use Rattle.seat_order.specs.Apart.{IsAt}
+use Rattle.seat_order.specs.Ready.{IsReady}
+use Rattle.seat_order.proofs.Readying.{ready_may_call, ready_place, ready_ending}
+use Rattle.seat_order.proofs.Moving.{at_asks, at_gives}
+use Rattle.seat_order.proofs.Coming.{unseated_passes}
 use Rattle.sim_world.specs.declared.seats.Seat.{Seat}
 use Rattle.sim_world.specs.declared.seats.Task.{Task}
 use Rattle.sim_world.specs.declared.seats.Task.TheVariants as tasks
@@ -94,51 +98,43 @@ put_new who task old = λ w. refl
 
 -- ---- where a machine leads
 
-want_by : (me : Who) (m : Op) (h : History) (step : Step) → asks m ≡ step → Stands me (Where.Between m) h → Stands me (where_in step (asked m) 0) h
-want_by me m h (Ask call) e s = asks_call me m call h e s
-want_by me m h (Done given) e s = gives_answer me m given h e s
+want_by : (me : Who) (m : Op) (log : List LogItem) (step : Step) → asks m ≡ step → IsAt me (Where.Between m) log → IsAt me (where_in step (asked m) 0) log
+want_by me m log (Ask call) e s = at_asks me log m call e s
+want_by me m log (Done given) e s = at_gives me log m given e s
 
 -- a machine that comes to its next want
-pub wants_next : (me : Who) (m : Op) (h : History) → Stands me (Where.Between m) h → Stands me (where_in (asks m) (asked m) 0) h
-wants_next me m h s = want_by me m h (asks m) refl s
+pub wants_next : (me : Who) (m : Op) (log : List LogItem) → IsAt me (Where.Between m) log → IsAt me (where_in (asks m) (asked m) 0) log
+wants_next me m log s = want_by me m log (asks m) refl s
 
 -- ---- what a seat may do
 
-goes_by : (who : Who) (w : Held) (step : Step) (n : Op) (done : ℕ) → Stands who (where_in step n done) w.past → MayGo who step done w
-goes_by who w (Ask call) n done s = (may_call who n call done w.past s, is_place who n call done w.past s)
-goes_by who w (Done given) n done s = ending_inside who given w.past s
+goes_by : (who : Who) (w : Held) (step : Step) (n : Op) (done : ℕ) → IsReady who (where_in step n done) w.past → MayGo who step done w
+goes_by who w (Ask call) n done s = (ready_may_call who n call done w.past s, ready_place who n call done w.past s)
+goes_by who w (Done given) n done s = ready_ending who given w.past s
 
-advances_by : (who : Who) (w : Held) (task : Task) → Stands who (where_of (Some task)) w.past → IsFit (Some task) → MayAdvance who task w
+advances_by : (who : Who) (w : Held) (task : Task) → IsReady who (where_of (Some task)) w.past → IsFit (Some task) → MayAdvance who task w
 advances_by who w (tasks.Asked request) s fits = fits
 advances_by who w (tasks.Begun operation) s fits = goes_by who w operation.wants operation.machine operation.done s
 
 -- where the seat stands in the world
-pub stands_at : (who : Who) (w : Held) (seats : List Seat) (task : Option Task) → AreSeated w seats → (state_of w.past).halted who.process ≡ false → task_of seats who ≡ task → Stands who (where_of task) (past w.past.log)
-stands_at who w seats task a goes at =
-    subst (λ (t : Option Task). Stands who (where_of t) (past w.past.log)) at
-    (a.orderly.stand who (sym (ap (λ (s : State). s.halted who.process) (state_is w a.start)) ∙ goes))
+pub stands_at : {apart : Who → Bool} (who : Who) (w : Held) (seats : List Seat) (task : Option Task) → AreSeated apart w seats → apart who ≡ false → (state_of w.past).halted who.process ≡ false → task_of seats who ≡ task → IsAt who (where_of task) w.past.log
+stands_at who w seats task a known goes at =
+    subst (λ (t : Option Task). IsAt who (where_of t) w.past.log) at
+    (a.orderly.there who known (sym (ap (λ (s : State). s.halted who.process) (state_is w a.start)) ∙ goes))
 
-pub may_advance : (who : Who) (w : Held) (seats : List Seat) (task : Task) → AreSeated w seats → (state_of w.past).halted who.process ≡ false → task_of seats who ≡ Some task → MayAdvance who task w
-may_advance who w seats task a goes at =
+pub may_advance : {apart : Who → Bool} (who : Who) (w : Held) (seats : List Seat) (task : Task) → AreSeated apart w seats → apart who ≡ false → (state_of w.past).halted who.process ≡ false → task_of seats who ≡ Some task → MayAdvance who task w
+may_advance who w seats task a known goes at =
     advances_by who w task
-    (subst (λ (h : History). Stands who (where_of (Some task)) h) (sym (past_is w a.start)) (stands_at who w seats (Some task) a goes at))
+    (subst (λ (h : History). IsReady who (where_of (Some task)) h) (sym (past_is w a.start)) (stands_at who w seats (Some task) a known goes at).ready)
     (subst IsFit at (a.fits who))
 
 -- ---- items of no seat
 
-pub unseated_seated : (w : Held) (seats : List Seat) (x : LogItem) → AreSeated w seats → seat_of x ≡ None → IsLegal (state_of w.past) x → AreSeated (told w (x ∷ [])) seats
-unseated_seated w seats x a none legal = record {
+pub unseated_seated : {apart : Who → Bool} (w : Held) (seats : List Seat) (x : LogItem) → AreSeated apart w seats → seat_of x ≡ None → IsLegal (state_of w.past) x → AreSeated apart (told w (x ∷ [])) seats
+unseated_seated {apart = apart} w seats x a none legal = record {
   start = a.start;
   legal = legal_then w (x ∷ []) a.start a.legal (legal, tt);
-  orderly = unseated_comes (seats_at seats) w.past.log x a.orderly none (subst (λ (h : History). IsLegal (state_of h) x) (past_is w a.start) legal);
+  orderly = unseated_passes apart (seats_at seats) w.past.log x a.orderly none (subst (λ (h : History). IsLegal (state_of h) x) (past_is w a.start) legal);
   once = a.once;
   fits = a.fits;
-}
-
--- seats of a process that was stopped stand nowhere
-pub stopped_orderly : (seats seats' : Who → Where) (log : List LogItem) → ((who : Who) → (state_of (past log)).halted who.process ≡ false → seats' who ≡ seats who) → IsOrderly seats log → IsOrderly seats' log
-stopped_orderly seats seats' log same o = record {
-  cooperating = o.cooperating;
-  order = o.order;
-  stand = λ who goes. subst (λ (place : Where). Stands who place (past log)) (sym (same who goes)) (o.stand who goes);
 }

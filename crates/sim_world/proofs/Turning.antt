@@ -19,7 +19,7 @@ use Rattle.file_model.specs.Held.{Held}
 use Rattle.file_model.specs.Held as held
 use Rattle.folder_rules.specs.Places.{past}
 use Rattle.op_machine.specs.Requests.{IsBuilt}
-use Rattle.op_machine.proofs.Orderly.{IsOrderly, unseated_comes, taken_comes, orderly_at_first}
+use Rattle.seat_order.proofs.Coming.{apart_at_first, taken_passes, stopped_move}
 use Rattle.world_tables.proofs.Finds.{same_seat-true}
 use Rattle.world_tables.proofs.Listings.{first_or_later}
 use Rattle.sim_world.specs.declared.failing.Failing.{Failing}
@@ -33,7 +33,7 @@ use Rattle.sim_world.specs.Scene.{Scene, Activity, Idle, Asked, Inside, Waiting,
 use Rattle.sim_world.specs.Stages.{activity_of, scene_from, where_of, seats_at, IsFit, AreSeated, AreJobs, IsJob}
 use Rattle.sim_world.specs.Tables.{task_of, Once, seats_with, jobs_of, waiting_of, front, offered_to}
 use Rattle.sim_world.proofs.JobTable.{one_more}
-use Rattle.sim_world.proofs.Ordered.{past_is, state_is, legal_then, Changes, put_new, changed_here, others_stay, fits_then, unseated_seated, stopped_orderly}
+use Rattle.sim_world.proofs.Ordered.{past_is, state_is, legal_then, Changes, put_new, changed_here, others_stay, fits_then, unseated_seated}
 use Rattle.sim_world.proofs.Scenes.{same_scene, activity_then}
 use Rattle.sim_world.proofs.Stepping.{state_told}
 
@@ -51,8 +51,8 @@ fails_so b decides e p = false≢true (sym e ∙ decides.1 p)
 
 -- ---- before any turn
 
-pub first_seated : (w : Held) → w ≡ record { past = record { start = []; log = [] }; clock = 0 } → AreSeated w []
-first_seated w e = subst (λ (v : Held). AreSeated v []) (sym e) (record { start = refl; legal = tt; orderly = orderly_at_first; once = tt; fits = λ who. tt })
+pub first_seated : (apart : Who → Bool) (w : Held) → w ≡ record { past = record { start = []; log = [] }; clock = 0 } → AreSeated apart w []
+first_seated apart w e = subst (λ (v : Held). AreSeated apart v []) (sym e) (record { start = refl; legal = tt; orderly = apart_at_first apart; once = tt; fits = λ who. tt })
 
 pub first_jobs : (w : Held) → w ≡ record { past = record { start = []; log = [] }; clock = 0 } → AreJobs (state_of w.past) [] []
 first_jobs w e = subst (λ (v : Held). AreJobs (state_of v.past) [] []) (sym e) (record { tickets = λ p. refl; fit = λ p. tt; count = λ p. refl; lower = λ p ticket there. absurd (omega (arith, there.1)) })
@@ -97,11 +97,11 @@ asked_by false request task none = refl
 asked_where : (who : Who) (request : Request) (seats : List Seat) → task_of seats who ≡ None → (v : Who) → seats_at (seats_with who (Some (tasks.Asked request)) seats) v ≡ seats_at seats v
 asked_where who request seats none v = asked_by (same_seat v who) request (task_of seats v) (λ e. ap (task_of seats) (same_seat-true v who e) ∙ none)
 
-pub asked_seated : (w : Held) (seats : List Seat) (who : Who) (request : Request) → AreSeated w seats → task_of seats who ≡ None → IsBuilt request → AreSeated w (seats_with who (Some (tasks.Asked request)) seats)
-asked_seated w seats who request a none built = record {
+pub asked_seated : {apart : Who → Bool} (w : Held) (seats : List Seat) (who : Who) (request : Request) → AreSeated apart w seats → task_of seats who ≡ None → IsBuilt request → AreSeated apart w (seats_with who (Some (tasks.Asked request)) seats)
+asked_seated {apart = apart} w seats who request a none built = record {
   start = a.start;
   legal = a.legal;
-  orderly = stopped_orderly (seats_at seats) (seats_at (seats_with who (Some (tasks.Asked request)) seats)) w.past.log (λ v alive. asked_where who request seats none v) a.orderly;
+  orderly = stopped_move apart (seats_at seats) (seats_at (seats_with who (Some (tasks.Asked request)) seats)) w.past.log (λ v alive. asked_where who request seats none v) a.orderly;
   once = (none, a.once);
   fits = fits_then who (Some (tasks.Asked request)) seats (seats_with who (Some (tasks.Asked request)) seats) (put_new who (tasks.Asked request) seats) built a.fits;
 }
@@ -157,13 +157,13 @@ cleared_activity : (b : Bool) (task : Option Task) → activity_of (cond b None 
 cleared_activity true task = refl
 cleared_activity false task = refl
 
-pub stopped_seated : (w : Held) (p : ℕ) (seats seats' : List Seat) → AreSeated w seats → Clears p seats seats' → Once seats' → AreSeated (held.told w (items.Stop p ∷ [])) seats'
-stopped_seated w p seats seats' a clears once =
+pub stopped_seated : {apart : Who → Bool} (w : Held) (p : ℕ) (seats seats' : List Seat) → AreSeated apart w seats → Clears p seats seats' → Once seats' → AreSeated apart (held.told w (items.Stop p ∷ [])) seats'
+stopped_seated {apart = apart} w p seats seats' a clears once =
     let stopped = unseated_seated w seats (items.Stop p) a refl (tt, tt) in
     record {
       start = stopped.start;
       legal = stopped.legal;
-      orderly = stopped_orderly (seats_at seats) (seats_at seats') (w.past.log ++ items.Stop p ∷ [])
+      orderly = stopped_move apart (seats_at seats) (seats_at seats') (w.past.log ++ items.Stop p ∷ [])
           (λ v goes. ap where_of (clears v ∙ ap (λ (b : Bool). cond b None (task_of seats v)) (goes_elsewhere w.past.log p v.process goes))) stopped.orderly;
       once = once;
       fits = λ v. subst IsFit (sym (clears v)) (cleared_fit (nat_eq v.process p) (task_of seats v) (a.fits v));
@@ -177,7 +177,7 @@ stopped_scene w p seats seats' failing jobs clears =
 
 -- ---- the clock
 
-pub clock_seated : (w : Held) (now : ℕ) (seats : List Seat) → AreSeated w seats → AreSeated (record w { clock = now }) seats
+pub clock_seated : {apart : Who → Bool} (w : Held) (now : ℕ) (seats : List Seat) → AreSeated apart w seats → AreSeated apart (record w { clock = now }) seats
 clock_seated w now seats a = record { start = a.start; legal = a.legal; orderly = a.orderly; once = a.once; fits = a.fits }
 
 -- ---- a job that is offered
@@ -296,14 +296,14 @@ taken_jobs w who ticket jobs jobs' offered' j left =
       lower = λ q. j.lower q;
     })
 
-pub taken_seated : (w : Held) (seats : List Seat) (who : Who) (ticket : Ticket) → AreSeated w seats → (state_of w.past).halted who.process ≡ false → task_of seats who ≡ None → IsLegal (state_of w.past) (items.Taken who ticket) → AreSeated (held.told w (items.Taken who ticket ∷ [])) seats
-taken_seated w seats who ticket a goes none legal =
+pub taken_seated : {apart : Who → Bool} (w : Held) (seats : List Seat) (who : Who) (ticket : Ticket) → AreSeated apart w seats → apart who ≡ false → (state_of w.past).halted who.process ≡ false → task_of seats who ≡ None → IsLegal (state_of w.past) (items.Taken who ticket) → AreSeated apart (held.told w (items.Taken who ticket ∷ [])) seats
+taken_seated {apart = apart} w seats who ticket a known goes none legal =
     let x : LogItem = items.Taken who ticket in
     let alive : (state_of (past w.past.log)).halted who.process ≡ false = sym (ap (λ (s : State). s.halted who.process) (state_is w a.start)) ∙ goes in
     record {
       start = a.start;
       legal = legal_then w (x ∷ []) a.start a.legal (legal, tt);
-      orderly = taken_comes who (seats_at seats) (seats_at seats) w.past.log ticket a.orderly alive (ap where_of none) (subst (λ (s : State). IsLegal s x) (state_is w a.start) legal) (ap where_of none) (λ v other. refl);
+      orderly = taken_passes apart who (seats_at seats) (seats_at seats) w.past.log a.orderly known alive (λ v other. refl) ticket (ap where_of none) (subst (λ (s : State). IsLegal s x) (state_is w a.start) legal) (ap where_of none);
       once = a.once;
       fits = a.fits;
     }
@@ -352,8 +352,8 @@ pub unseated_jobs : (w w' : Held) (x : LogItem) (jobs : List Job) (offered' : Li
 unseated_jobs w w' x jobs offered' e leaves j =
     subst (λ (v : Held). AreJobs (state_of v.past) jobs offered') (sym e) (jobs_told w x jobs offered' (queues_wait (state_of w.past) x leaves) (queues_used (state_of w.past) x leaves) j)
 
-pub unseated_now : (w w' : Held) (seats : List Seat) (x : LogItem) → AreSeated w seats → w' ≡ held.told w (x ∷ []) → seat_of x ≡ None → IsLegal (state_of w.past) x → AreSeated w' seats
-unseated_now w w' seats x a e none legal = subst (λ (v : Held). AreSeated v seats) (sym e) (unseated_seated w seats x a none legal)
+pub unseated_now : {apart : Who → Bool} (w w' : Held) (seats : List Seat) (x : LogItem) → AreSeated apart w seats → w' ≡ held.told w (x ∷ []) → seat_of x ≡ None → IsLegal (state_of w.past) x → AreSeated apart w' seats
+unseated_now {apart = apart} w w' seats x a e none legal = subst (λ (v : Held). AreSeated apart v seats) (sym e) (unseated_seated w seats x a none legal)
 
 pub unseated_scene : (w w' : Held) (seats : List Seat) (failing : List Failing) (jobs : List Job) (x : LogItem) → w' ≡ held.told w (x ∷ []) → scene_from w' seats failing jobs ≡ told (scene_from w seats failing jobs) x
 unseated_scene w w' seats failing jobs x e = ap (λ (v : Held). scene_from v seats failing jobs) e

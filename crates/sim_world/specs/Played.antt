@@ -1,5 +1,5 @@
 -- What each turn of a schedule comes to, and which logs follow a schedule. Nothing is said here of which file calls are made.
-use Rattle.std.specs.Prelude.{◌≡◌, ◌⊎◌, ◌<◌, ℕ, Bool, true, false, List, [], ◌∷◌, ◌++◌, length, Option, Some, None}
+use Rattle.std.specs.Prelude.{◌≡◌, ◌⊎◌, ◌<◌, ℕ, nat_eq, Bool, true, false, List, [], ◌∷◌, ◌++◌, length, Option, Some, None}
 use Rattle.cache_types.specs.declared.name.Name.TheVariants.{Ro, RoIdx}
 use Rattle.cache_types.specs.declared.request.Request.{Request}
 use Rattle.cache_types.specs.declared.seat.Who.{Who}
@@ -109,3 +109,25 @@ Comes old (turn ∷ schedule) new = (next : Scene) × Plays old turn next × Com
 -- the log follows the schedule
 abbrev pub Played : List Turn → List LogItem → Type 0
 Played schedule log = (last : Scene) × Comes opening schedule last × (last.log ≡ log)
+
+-- ---- an outsider's process
+
+-- the process whose seat or queue it is
+abbrev pub process_of : Turn → Option ℕ
+process_of (turns.Start who request) = Some who.process
+process_of (turns.Step who) = Some who.process
+process_of (turns.Fail who memory) = Some who.process
+process_of (turns.Offer process request) = Some process
+process_of (turns.Take who) = Some who.process
+process_of (turns.Stop process) = Some process
+process_of turn = None
+
+-- it is the process of the seat that calls from outside of the schedule
+abbrev pub is_outside : Option Who → Option ℕ → Bool
+is_outside None process = false
+is_outside (Some me) None = false
+is_outside (Some me) (Some process) = nat_eq process me.process
+
+-- a turn of that process
+abbrev pub concerns : Option Who → Turn → Bool
+concerns outsider turn = is_outside outsider (process_of turn)

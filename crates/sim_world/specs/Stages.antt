@@ -1,18 +1,20 @@
 -- What a stage means: the scene that it is, where each seat stands, and what is kept from turn to turn.
-use Rattle.std.specs.Prelude.{◌≡◌, ◌<◌, ℕ, List, [], map, length, Option, Some, None}
+use Rattle.std.specs.Prelude.{◌≡◌, ◌<◌, ℕ, Bool, List, [], map, length, Option, Some, None}
 use Rattle.std.specs.List.{AllByRecursion, Contains}
 use Rattle.cache_types.specs.declared.request.Request.{Request}
 use Rattle.cache_types.specs.declared.seat.Who.{Who}
 use Rattle.file_log.specs.declared.ticket.Ticket.{Ticket}
 use Rattle.file_log.specs.Legal.{Legal, IsPut}
+use Rattle.file_log.specs.Log.{is_seat}
 use Rattle.file_log.specs.State.{State, first, state_of}
+use Rattle.file_log.specs.Told.{Grows, Owns}
 use Rattle.file_model.specs.Held.{Held}
 use Rattle.files_api.specs.declared.machine.Step.{Step}
 use Rattle.files_api.specs.declared.machine.Step.TheVariants.{Ask, Done}
 use Rattle.op_machine.specs.declared.op.Op.{Op}
 use Rattle.op_machine.specs.Places.{Where, Outside, Within, Ending}
 use Rattle.op_machine.specs.Requests.{IsBuilt}
-use Rattle.op_machine.proofs.Orderly.{IsOrderly}
+use Rattle.seat_order.specs.Apart.{IsOrderlyBut}
 use Rattle.sim_world.specs.declared.failing.Failing.{Failing}
 use Rattle.sim_world.specs.declared.jobs.Job.{Job}
 use Rattle.sim_world.specs.declared.jobs.Offered.{Offered}
@@ -66,11 +68,15 @@ IsFit None = Unit {0}
 IsFit (Some (tasks.Asked request)) = IsBuilt request
 IsFit (Some (tasks.Begun operation)) = Unit {0}
 
--- The log can be, no place of it breaks a rule, and each seat stands in the world where its machine has it.
-pub record AreSeated (world : Held) (seats : List Seat) : Type 0 where
+-- the seat calls from outside of the schedule
+abbrev pub apart_of : Option Who → Who → Bool
+apart_of outsider = λ who. is_seat who outsider
+
+-- The log can be, and each seat that isn't set apart is never the first to break a rule and is in the world where its machine has it.
+pub record AreSeated (apart : Who → Bool) (world : Held) (seats : List Seat) : Type 0 where
   pub start : world.past.start ≡ []
   pub legal : Legal (first []) world.past.log
-  pub orderly : IsOrderly (seats_at seats) world.past.log
+  pub orderly : IsOrderlyBut apart (seats_at seats) world.past.log
   pub once : Once seats
   pub fits : (who : Who) → IsFit (task_of seats who)
 
@@ -86,5 +92,11 @@ pub record AreJobs (s : State) (jobs : List Job) (offered : List Offered) : Type
   pub lower : (process : ℕ) (ticket : Ticket) → Contains (s.used process) ticket → ticket.number < length (s.used process)
 
 pub record InOrder (stage : Stage) : Type 0 where
-  pub seated : AreSeated stage.world stage.seats.items
+  pub seated : AreSeated (apart_of stage.outsider) stage.world stage.seats.items
   pub queues : AreJobs (state_of stage.world.past) stage.jobs.items stage.offered.items
+
+-- ---- what the outsider sees of it
+
+-- the log went on by items that can come, none of which is the outsider's or stops its process
+abbrev pub PassesBy : Option Who → Held → Held → Type 0
+PassesBy outsider old new = (me : Who) → outsider ≡ Some me → Grows (Some old.past) (Some new.past) (Owns me [])

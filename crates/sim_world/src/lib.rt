@@ -7,6 +7,7 @@ mod failing;
 mod jobs;
 mod offer;
 mod operation;
+mod outsider;
 mod playing;
 mod seats;
 mod stage;
@@ -16,4 +17,5 @@ mod tests;
 mod turn;
 
 pub use playing::play;
+pub use stage::Stage;
 pub use turn::Turn;

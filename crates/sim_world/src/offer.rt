@@ -1,6 +1,6 @@
-ghost use Rattle.std.specs.Prelude.{◌≡◌, ◌↔◌, IsTrue, OnOk};
-ghost use Rattle.sim_world.specs.Played.{Plays, MayOffer};
-ghost use Rattle.sim_world.specs.Stages.{InOrder, scene_of};
+ghost use Rattle.std.specs.Prelude.{◌≡◌, ◌↔◌, false, IsTrue, OnOk};
+ghost use Rattle.sim_world.specs.Played.{Plays, MayOffer, concerns};
+ghost use Rattle.sim_world.specs.Stages.{InOrder, PassesBy, scene_of};
 ghost use Rattle.sim_world.specs.declared.turn.Turn.TheVariants as turns;
 
 use crate::built::{is_built, is_put};
@@ -26,10 +26,12 @@ impl Stage {
     }
 
     /// Puts a job into a process's queue.
-    pub fn offer(&mut self, process: u32, request: &Request) -> Result<(), NoMemory>
+    pub(crate) fn offer(&mut self, process: u32, request: &Request) -> Result<(), NoMemory>
         requires { InOrder self.old }
         ensures order { InOrder self.new }
         ensures plays { OnOk result (Plays (scene_of self.old) (turns.Offer process request.now) (scene_of self.new)) }
+        ensures outsider { self.new.outsider ≡ self.old.outsider }
+        ensures grows { PassesBy self.old.outsider self.old.world self.new.world }
     {
         if !self.may_offer(process, request) {
             return Ok(());
@@ -55,10 +57,13 @@ impl Stage {
     }
 
     /// Gives the front job of its process's queue to a seat that is at nothing.
-    pub fn take(&mut self, who: Who) -> Result<(), NoMemory>
-        requires { InOrder self.old }
+    pub(crate) fn take(&mut self, who: Who) -> Result<(), NoMemory>
+        requires order { InOrder self.old }
+        requires elsewhere { concerns self.old.outsider (turns.Take who) ≡ false }
         ensures order { InOrder self.new }
         ensures plays { OnOk result (Plays (scene_of self.old) (turns.Take who) (scene_of self.new)) }
+        ensures outsider { self.new.outsider ≡ self.old.outsider }
+        ensures grows { PassesBy self.old.outsider self.old.world self.new.world }
     {
         if !self.is_free(who) {
             return Ok(());

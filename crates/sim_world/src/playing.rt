@@ -19,7 +19,7 @@ use std::alloc::Global;
 pub fn play(alloc: Global, schedule: &[Turn]) -> Result<World, NoMemory>
     ensures { IfOk result (λ world. IsPlayed schedule.now world.past) }
 {
-    let mut stage = Stage::new(alloc);
+    let mut stage = Stage::new(alloc, None);
     for turn in schedule {
         stage.turn(turn)?;
     }

@@ -1,8 +1,8 @@
-ghost use Rattle.std.specs.Prelude.{◌≡◌, ◌↔◌, None, IsTrue, IfOk, OnOk};
+ghost use Rattle.std.specs.Prelude.{◌≡◌, ◌↔◌, false, None, IsTrue, IfOk, OnOk};
 ghost use Rattle.cache_types.specs.declared.name.Name.TheVariants.{Ro, RoIdx};
 ghost use Rattle.file_log.specs.State.{state_of, disk_of};
 ghost use Rattle.op_machine.specs.Requests.{IsBuilt};
-ghost use Rattle.sim_world.specs.Played.{Plays, GoesOn, IsFree, IsAbsent};
+ghost use Rattle.sim_world.specs.Played.{Plays, GoesOn, IsFree, IsAbsent, concerns};
 ghost use Rattle.sim_world.specs.Scene.{opening};
 ghost use Rattle.sim_world.specs.declared.turn.Turn.TheVariants as turns;
 
@@ -17,9 +17,14 @@ use std::alloc::Global;
 
 /// What a schedule has come to: the world, the busy seats, the failures that wait for calls, and the jobs
 /// that wait in queues.
+///
+/// One seat may be an outsider: it makes its own calls between the turns, by [`own_step`](Stage::own_step),
+/// and may break rules among seats. Every other seat follows its machine and is never the first to break
+/// one. No turn is played for the outsider's process, so the schedule neither stops it nor gives it a job.
 #[derive(Debug, Drop)]
 pub struct Stage {
     pub world: World,
+    pub outsider: Option<Who>,
     pub seats: Vec<Seat>,
     pub failing: Vec<Failing>,
     pub jobs: Vec<Job>,
@@ -37,15 +42,19 @@ fn copy_text(text: &Option<Bytes>) -> Result<Option<Bytes>, NoMemory>
 }
 
 impl Stage {
-    ghost use Rattle.sim_world.specs.Stages.{InOrder, scene_of};
+    ghost use Rattle.sim_world.specs.Stages.{InOrder, PassesBy, scene_of};
 
-    /// A new world, with nothing under way. Takes no memory.
-    pub fn new(alloc: Global) -> Stage
+    /// A new world, with nothing under way, and the seat that calls from outside of the schedule, if one
+    /// does. Takes no memory.
+    pub fn new(alloc: Global, outsider: Option<Who>) -> Stage
         ensures order { InOrder result }
         ensures scene { scene_of result ≡ opening }
+        ensures world { result.world ≡ record { past = record { start = []; log = [] }; clock = 0 } }
+        ensures outsider { result.outsider ≡ outsider }
     {
         Stage {
             world: World::new(alloc),
+            outsider,
             seats: Vec::new(alloc),
             failing: Vec::new(alloc),
             jobs: Vec::new(alloc),
@@ -53,12 +62,26 @@ impl Stage {
         }
     }
 
-    /// Plays one turn.
+    /// Plays one turn. A turn of the outsider's process does nothing.
+    ///
+    /// The outsider may rely on this, also after a refusal: the items that come are none of its own, and none
+    /// of them stops its process.
+    ///
+    /// # Errors
+    ///
+    /// `NoMemory` where there was no memory that the schedule didn't take away. Then nothing was played of
+    /// the turn; but a seat whose step had no memory for its call goes on as after a call that was refused
+    /// memory, and the log may have a `Failed` of it that the schedule doesn't have.
     pub fn turn(&mut self, turn: &Turn) -> Result<(), NoMemory>
         requires { InOrder self.old }
         ensures order { InOrder self.new }
-        ensures plays { OnOk result (Plays (scene_of self.old) turn.now (scene_of self.new)) }
+        ensures plays { concerns self.old.outsider turn.now ≡ false → OnOk result (Plays (scene_of self.old) turn.now (scene_of self.new)) }
+        ensures outsider { self.new.outsider ≡ self.old.outsider }
+        ensures grows { PassesBy self.old.outsider self.old.world self.new.world }
     {
+        if self.concerns(turn) {
+            return Ok(());
+        }
         match turn {
             Turn::Start { who, request } => self.start(*who, request),
             Turn::Step { who } => self.step(*who),
@@ -79,7 +102,7 @@ impl Stage {
     }
 
     /// Whether a process wasn't stopped.
-    pub fn goes_on(&self, process: u32) -> bool
+    pub(crate) fn goes_on(&self, process: u32) -> bool
         requires { InOrder self.now }
         ensures scene { IsTrue result ↔ GoesOn (scene_of self.now) process }
         ensures world { IsTrue result ↔ ((state_of self.now.world.past).halted process ≡ false) }
@@ -88,7 +111,7 @@ impl Stage {
     }
 
     /// Whether a seat of a process that goes on is at nothing.
-    pub fn is_free(&self, who: Who) -> bool
+    pub(crate) fn is_free(&self, who: Who) -> bool
         requires { InOrder self.now }
         ensures { IsTrue result ↔ IsFree (scene_of self.now) who }
     {
@@ -108,6 +131,8 @@ impl Stage {
         requires { InOrder self.old }
         ensures order { InOrder self.new }
         ensures plays { OnOk result (Plays (scene_of self.old) (turns.Start who request.now) (scene_of self.new)) }
+        ensures outsider { self.new.outsider ≡ self.old.outsider }
+        ensures grows { PassesBy self.old.outsider self.old.world self.new.world }
     {
         if !self.may_start(who, request) {
             return Ok(());
@@ -123,6 +148,8 @@ impl Stage {
         requires { InOrder self.old }
         ensures order { InOrder self.new }
         ensures plays { OnOk result (Plays (scene_of self.old) (turns.Fail who memory) (scene_of self.new)) }
+        ensures outsider { self.new.outsider ≡ self.old.outsider }
+        ensures grows { PassesBy self.old.outsider self.old.world self.new.world }
     {
         if !self.goes_on(who.process) {
             return Ok(());
@@ -132,9 +159,12 @@ impl Stage {
 
     /// Stops a process.
     fn stop(&mut self, process: u32) -> Result<(), NoMemory>
-        requires { InOrder self.old }
+        requires order { InOrder self.old }
+        requires elsewhere { concerns self.old.outsider (turns.Stop process) ≡ false }
         ensures order { InOrder self.new }
         ensures plays { OnOk result (Plays (scene_of self.old) (turns.Stop process) (scene_of self.new)) }
+        ensures outsider { self.new.outsider ≡ self.old.outsider }
+        ensures grows { PassesBy self.old.outsider self.old.world self.new.world }
     {
         if !self.goes_on(process) {
             return Ok(());
@@ -170,6 +200,8 @@ impl Stage {
         requires { InOrder self.old }
         ensures order { InOrder self.new }
         ensures plays { OnOk result (Plays (scene_of self.old) (turns.Install root name.now main.now index.now) (scene_of self.new)) }
+        ensures outsider { self.new.outsider ≡ self.old.outsider }
+        ensures grows { PassesBy self.old.outsider self.old.world self.new.world }
     {
         let absent = self.is_absent(root, name)?;
         if !absent {
@@ -186,6 +218,8 @@ impl Stage {
         requires { InOrder self.old }
         ensures order { InOrder self.new }
         ensures plays { OnOk result (Plays (scene_of self.old) (turns.SetList text.now) (scene_of self.new)) }
+        ensures outsider { self.new.outsider ≡ self.old.outsider }
+        ensures grows { PassesBy self.old.outsider self.old.world self.new.world }
     {
         let text = copy_text(text)?;
         self.world.set_list(text)
@@ -196,6 +230,8 @@ impl Stage {
         requires { InOrder self.old }
         ensures order { InOrder self.new }
         ensures plays { OnOk result (Plays (scene_of self.old) (turns.Clock now) (scene_of self.new)) }
+        ensures outsider { self.new.outsider ≡ self.old.outsider }
+        ensures grows { PassesBy self.old.outsider self.old.world self.new.world }
     {
         self.world.set_clock(now);
         Ok(())

@@ -1,8 +1,8 @@
-ghost use Rattle.std.specs.Prelude.{◌≡◌, ◌&&◌, None, OnOk, if◌then◌else◌};
+ghost use Rattle.std.specs.Prelude.{◌≡◌, ◌&&◌, false, None, OnOk, if◌then◌else◌};
 ghost use Rattle.cache_types.specs.Seats.{same_seat};
 ghost use Rattle.cache_types.specs.declared.seat.Who.{Who};
-ghost use Rattle.sim_world.specs.Played.{Plays};
-ghost use Rattle.sim_world.specs.Stages.{InOrder, scene_of};
+ghost use Rattle.sim_world.specs.Played.{Plays, concerns};
+ghost use Rattle.sim_world.specs.Stages.{InOrder, PassesBy, scene_of};
 ghost use Rattle.sim_world.specs.Steps.{IsBrought, is_failure};
 ghost use Rattle.sim_world.specs.Tables.{failing_of as the_failing};
 ghost use Rattle.sim_world.specs.declared.turn.Turn.{Turn};
@@ -32,10 +32,13 @@ fn settle(failing: &mut Vec<Failing>, who: Who, brought: Brought) -> Result<(), 
 impl Stage {
     /// Makes the next item of a seat, if it is at anything. Where there is no memory that the schedule
     /// doesn't take away, the seat goes on as after a call that was refused memory, and that is answered.
-    pub fn step(&mut self, who: Who) -> Result<(), NoMemory>
-        requires { InOrder self.old }
+    pub(crate) fn step(&mut self, who: Who) -> Result<(), NoMemory>
+        requires order { InOrder self.old }
+        requires elsewhere { concerns self.old.outsider (Turn.Step who) ≡ false }
         ensures order { InOrder self.new }
         ensures plays { OnOk result (Plays (scene_of self.old) (Turn.Step who) (scene_of self.new)) }
+        ensures outsider { self.new.outsider ≡ self.old.outsider }
+        ensures grows { PassesBy self.old.outsider self.old.world self.new.world }
     {
         if self.world.is_halted(who.process) {
             return Ok(());

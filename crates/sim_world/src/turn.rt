@@ -1,3 +1,6 @@
+ghost use Rattle.std.specs.Prelude.{◌≡◌};
+ghost use Rattle.sim_world.specs.Played.{process_of};
+
 use cache_types::{Bytes, Request, Text, Who};
 
 /// One turn of a schedule. A turn that doesn't apply does nothing, and so does any turn of a process that
@@ -49,6 +52,23 @@ pub enum Turn {
     Clock {
         now: u64,
     },
-    /// The turn of a seat that calls from outside of the schedule. Nothing in [`play`](crate::play).
+    /// The turn of the outsider: what it does then it does by its own calls, so nothing is played.
     Own,
+}
+
+impl Turn {
+    /// The process whose seat or queue the turn is of.
+    pub(crate) fn process(&self) -> Option<u32>
+        ensures { result ≡ process_of self.now }
+    {
+        match self {
+            Turn::Start { who, .. } => Some(who.process),
+            Turn::Step { who } => Some(who.process),
+            Turn::Fail { who, .. } => Some(who.process),
+            Turn::Offer { process, .. } => Some(*process),
+            Turn::Take { who } => Some(who.process),
+            Turn::Stop { process } => Some(*process),
+            _ => None,
+        }
+    }
 }
