@@ -1,10 +1,8 @@
 -- What is found in the table of busy seats from which one was taken out.
 use Rattle.std.proofs.Common.{subst, ◌≡◌, ◌≤◌, ◌<◌, ℕ, suc, ◌+◌, List, [], ◌∷◌, cond, Bool, true, false, not, nat_eq, Option, Some, None, refl, sym, ap, ◌∙◌, filter, arith, length, get_or}
 use Rattle.std.specs.List.{remove}
-use Rattle.std.proofs.lemmas.Bool.{eqb-true}
 use Rattle.cache_types.specs.declared.seat.Who.{Who}
 use Rattle.cache_types.specs.Seats.{same_seat}
-use Rattle.file_log.proofs.All.{seat_self}
 use Rattle.world_tables.proofs.Finds.{dropped_if, same_seat-true}
 use Rattle.sim_world.specs.declared.seats.Seat.{Seat}
 use Rattle.sim_world.specs.declared.seats.Task.{Task}

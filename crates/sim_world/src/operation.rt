@@ -1,11 +1,11 @@
-ghost use Rattle.std.specs.Prelude.{◌≡◌, ◌⊎◌, ◌∷◌, [], false, true, IfOk, OnOk, OnErr};
+ghost use Rattle.std.specs.Prelude.{◌≡◌, ◌+◌, ◌⊎◌, ◌∷◌, [], false, true, IfOk, OnOk, OnErr};
 ghost use Rattle.file_log.specs.declared.item.LogItem.TheVariants.{Begin, End};
 ghost use Rattle.file_log.specs.Legal.{IsLegal};
 ghost use Rattle.file_log.specs.Seat.{MayCall};
 ghost use Rattle.file_log.specs.State.{state_of};
 ghost use Rattle.file_model.specs.Held.{told};
 ghost use Rattle.file_model.specs.Seeing.{seen_of};
-ghost use Rattle.file_model.specs.Steps.{IsPlace, is_inside};
+ghost use Rattle.file_model.specs.Steps.{IsEarlier, IsPlace, is_inside};
 ghost use Rattle.files_api.specs.Drive.{IsEndOf};
 ghost use Rattle.op_machine.specs.Requests.{IsBuilt};
 ghost use Rattle.sim_world.specs.Steps.{wanting as the_wanting, IsFirst, IsFed, Asks, Ends, Goes, MayGo, Begins, Waits, Advances, MayAdvance, fate_of as the_fate, brought_reply};
@@ -145,6 +145,17 @@ fn brought_by(fate: Fate, reply: &Reply) -> Brought
     }
 }
 
+/// How many bytes of a write are written after one more, where that isn't the last.
+fn after_byte(call: &Call, done: u64) -> u64
+    requires { IsEarlier call.now done }
+    ensures { result ≡ done + 1 }
+{
+    let Call::WriteAt { bytes, .. } = call else {
+        return done;
+    };
+    if done < bytes.len() { done + 1 } else { done }
+}
+
 /// Makes one item of the call that the machine wants.
 fn ask(
     world: &mut World,
@@ -164,8 +175,8 @@ fn ask(
         Progress::More => Moved {
             task: Some(Task::Begun(Operation {
                 machine,
+                done: after_byte(&call, done),
                 wants: Step::Ask(call),
-                done: done + 1,
             })),
             brought: Brought::Item,
         },

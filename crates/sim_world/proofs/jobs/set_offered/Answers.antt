@@ -1,7 +1,5 @@
-use Rattle.std.proofs.Common.{rules, ◌≡◌, ◌∙◌, ap, ◌∷◌, List}
+use Rattle.std.proofs.Common.{rules}
 use Rattle.std.proofs.lemmas.Fn.{filter_same}
-use Rattle.sim_world.specs.declared.jobs.Offered.{Offered}
-use Rattle.sim_world.specs.Tables.{offered_to}
 use Rattle.sim_world.proofs.JobTable.{is_another, offered_more}
 use Rattle.sim_world.proofs.jobs.set_offered.Goals as goal
 

@@ -1,6 +1,6 @@
-use Rattle.std.proofs.Common.{◌≡◌, ◌<◌, ◌≤◌, ◌∙◌, Some, None, ap, sym, length, get_or, arith}
+use Rattle.std.proofs.Common.{◌≡◌, ◌<◌, ◌∙◌, Some, ap, sym, length, arith}
 use Rattle.sim_world.specs.declared.jobs.Job.{Job}
-use Rattle.sim_world.specs.Tables.{jobs_of, job_place, waiting_of, front}
+use Rattle.sim_world.specs.Tables.{job_place, waiting_of, front}
 use Rattle.sim_world.proofs.JobTable.{front_there, taken_at, none_there, none_left}
 use Rattle.sim_world.proofs.jobs.take_front.Goals as goal
 

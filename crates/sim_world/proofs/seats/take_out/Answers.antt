@@ -1,6 +1,6 @@
-use Rattle.std.proofs.Common.{◌≡◌, ◌<◌, ◌≤◌, ◌∙◌, Some, ap, sym, length, arith}
+use Rattle.std.proofs.Common.{◌≡◌, ◌<◌, ◌∙◌, Some, ap, sym, length, arith}
 use Rattle.sim_world.specs.declared.seats.Seat.{Seat}
-use Rattle.sim_world.specs.Tables.{place_in, task_of}
+use Rattle.sim_world.specs.Tables.{place_in}
 use Rattle.sim_world.proofs.SeatTable.{found_there, out_there, once_there, missed, none_out}
 use Rattle.sim_world.proofs.seats.take_out.Goals as goal
 
