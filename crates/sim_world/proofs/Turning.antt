@@ -456,3 +456,11 @@ module _ (w w' : Held) (seats seats' out : List Seat) (failing : List Failing) (
       ap (λ (v : Held). scene_from v seats' failing jobs') taken_is
       ∙ ap (λ (s : List Seat). scene_from (held.told w (items.Taken who job.ticket ∷ [])) s failing jobs') seats_are
       ∙ taken_scene w seats failing who job jobs jobs' at left
+
+-- a job that was put at the end, where there was room for it
+pub put_last : (ok : Bool) (jobs kept jobs' : List Job) (job : Job) → jobs' ≡ cond ok (kept ++ job ∷ []) kept → ok ≡ true → kept ≡ jobs → jobs' ≡ jobs ++ job ∷ []
+put_last ok jobs kept jobs' job put fine same = put ∙ ap (λ (b : Bool). cond b (kept ++ job ∷ []) kept) fine ∙ ap (λ (l : List Job). l ++ job ∷ []) same
+
+-- the counts of jobs that were offered, where room was made before
+pub counted_so : (p count : ℕ) (offered' kept offered'' : List Offered) → kept ≡ offered' → ((q : ℕ) → offered_to offered'' q ≡ cond (nat_eq q p) count (offered_to kept q)) → (q : ℕ) → offered_to offered'' q ≡ cond (nat_eq q p) count (offered_to offered' q)
+counted_so p count offered' kept offered'' same counted q = counted q ∙ ap (λ (l : List Offered). cond (nat_eq q p) count (offered_to l q)) same

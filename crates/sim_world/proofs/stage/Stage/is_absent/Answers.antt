@@ -20,5 +20,5 @@ returns c =
     elim c.if-lacks.branch [
       | then-lacks w ↦ both_hold c.lacks.result w.lacks-then-lacks.result c.if-lacks.result w.if-lacks.true w.result-is first
           (lacks_so w.lacks-then-lacks.result _ d (RoIdx root c.in_ok-copy-2.field-0) (RoIdx root c.args.name.now) w.tables-then-lacks.ensures (ap (λ (name : List ℕ). RoIdx root name) c.in_ok-copy-2.ensures) w.lacks-then-lacks.ensures)
-      | else-lacks w ↦ first_fails c.lacks.result c.if-lacks.result w.if-lacks.false w.result-is first
+      | else-lacks w ↦ first_fails c.lacks.result c.if-lacks.result w.if-lacks.false (w.result-is ∙ w.if-lacks.false) first
     ]
