@@ -1,5 +1,5 @@
 -- What each turn but a step keeps, and that it is the schedule's.
-use Rattle.std.proofs.Common.{◌≡◌, ◌⊎◌, ◌↔◌, ◌<◌, inl, inr, ℕ, ◌+◌, cond, nat_eq, not, ◌&&◌, ◌||◌, Bool, true, false, IsTrue, List, [], ◌∷◌, ◌++◌, fold, length, map, drop, Option, Some, None, refl, sym, ap, subst, ◌∙◌, arith}
+use Rattle.std.proofs.Common.{◌≡◌, ◌⊎◌, ◌↔◌, ◌<◌, inl, inr, ℕ, ◌+◌, cond, nat_eq, not, ◌&&◌, ◌||◌, Bool, true, false, IsTrue, List, [], ◌∷◌, ◌++◌, fold, length, map, drop, Option, Some, None, Result, Ok, Err, OnOk, OnErr, refl, sym, ap, subst, ◌∙◌, arith}
 use Rattle.std.specs.Prelude.{is_none, option_map}
 use Rattle.std.specs.List.{Contains, AllByRecursion}
 use Rattle.std.proofs.lemmas.Bool.{false≢true, eqb-true, eq-eqb}
@@ -368,3 +368,99 @@ absent_scene w seats failing jobs root name start =
     let e = state_is w start in
     let Names : State → Type 0 = λ s. (s.disk.names (Ro root name) ≡ None) × (s.disk.names (RoIdx root name) ≡ None) in
     (λ there. subst Names (sym e) there, λ here. subst Names e here)
+
+-- the same where the world may have refused it, and then nothing changed
+pub either_seated : {T E : Type 0} {apart : Who → Bool} (result : Result T E) (w w' : Held) (seats : List Seat) (x : LogItem) → AreSeated apart w seats → OnOk result (w' ≡ held.told w (x ∷ [])) → OnErr result (w' ≡ w) → seat_of x ≡ None → IsLegal (state_of w.past) x → AreSeated apart w' seats
+either_seated (Ok v) w w' seats x a told_is same none legal = unseated_now w w' seats x a told_is none legal
+either_seated {apart = apart} (Err e) w w' seats x a told_is same none legal = subst (λ (v : Held). AreSeated apart v seats) (sym same) a
+
+pub either_jobs : {T E : Type 0} (result : Result T E) (w w' : Held) (x : LogItem) (jobs : List Job) (offered' : List Offered) → OnOk result (w' ≡ held.told w (x ∷ [])) → OnErr result (w' ≡ w) → LeavesQueues x → AreJobs (state_of w.past) jobs offered' → AreJobs (state_of w'.past) jobs offered'
+either_jobs (Ok v) w w' x jobs offered' told_is same leaves j = unseated_jobs w w' x jobs offered' told_is leaves j
+either_jobs (Err e) w w' x jobs offered' told_is same leaves j = subst (λ (v : Held). AreJobs (state_of v.past) jobs offered') (sym same) j
+
+-- ---- two tests, the second made only where the first holds
+
+pub both_hold : {P Q : Type 0} (a b r : Bool) → a ≡ true → r ≡ b → (IsTrue a ↔ P) → (IsTrue b ↔ Q) → IsTrue r ↔ (P × Q)
+both_hold a b r first same decides decides' = (λ yes. (decides.0 first, decides'.0 (sym same ∙ yes)), λ both. same ∙ decides'.1 both.1)
+
+pub first_fails : {P Q : Type 0} (a r : Bool) → a ≡ false → r ≡ false → (IsTrue a ↔ P) → IsTrue r ↔ (P × Q)
+first_fails a r first same decides = (λ yes. absurd (false≢true (sym same ∙ yes)), λ both. absurd (false≢true (sym first ∙ decides.1 both.0)))
+
+-- ---- what a job that is offered comes to
+
+pub may_offer_queue : (w : Held) (seats : List Seat) (failing : List Failing) (jobs : List Job) (offered' : List Offered) (p : ℕ) (request told' : Request) (ticket : Ticket) → w.past.start ≡ [] → AreJobs (state_of w.past) jobs offered' → MayOffer (scene_from w seats failing jobs) p request
+    → told' ≡ request → ticket.number ≡ offered_to offered' p → RequestFits told' → MayQueue (state_of w.past) p ticket told'
+may_offer_queue w seats failing jobs offered' p request told' ticket start j may same number fits =
+    may_queue w p told' ticket jobs offered' j number (ap (λ (s : State). s.halted p) (state_is w start) ∙ may.goes_on) may.room (subst IsPut (sym same) may.put) fits
+
+-- the queues after it
+pub offered_now : (w w' : Held) (p : ℕ) (request told' kept : Request) (ticket : Ticket) (jobs jobs' : List Job) (offered' offered'' : List Offered) (count : ℕ) → AreJobs (state_of w.past) jobs offered' → ticket.number ≡ offered_to offered' p → count ≡ ticket.number + 1 → IsBuilt request
+    → w' ≡ held.told w (items.Queued p ticket told' ∷ []) → told' ≡ request → kept ≡ request → jobs' ≡ jobs ++ (record { process = p; ticket = ticket; request = kept }) ∷ []
+    → ((q : ℕ) → offered_to offered'' q ≡ cond (nat_eq q p) count (offered_to offered' q)) → AreJobs (state_of w'.past) jobs' offered''
+offered_now w w' p request told' kept ticket jobs jobs' offered' offered'' count j number more built e same same' put counted =
+    let with_job : Request → List Job = λ r. jobs ++ (record { process = p; ticket = ticket; request = r }) ∷ [] in
+    let told_is : w' ≡ held.told w (items.Queued p ticket request ∷ []) = e ∙ ap (λ (r : Request). held.told w (items.Queued p ticket r ∷ [])) same in
+    let jobs_are : jobs' ≡ with_job request = put ∙ ap with_job same' in
+    subst (λ (v : Held). AreJobs (state_of v.past) jobs' offered'') (sym told_is)
+    (subst (λ (l : List Job). AreJobs (state_of (held.told w (items.Queued p ticket request ∷ [])).past) l offered'') (sym jobs_are)
+    (offered_jobs w p request ticket jobs offered' offered'' count j number more built counted))
+
+-- and the scene
+pub offered_scene_now : (w w' : Held) (seats : List Seat) (failing : List Failing) (p : ℕ) (request told' kept : Request) (ticket : Ticket) (jobs jobs' : List Job) (offered' : List Offered) → AreJobs (state_of w.past) jobs offered' → w.past.start ≡ [] → ticket ≡ record { side = 0; number = offered_to offered' p }
+    → w' ≡ held.told w (items.Queued p ticket told' ∷ []) → told' ≡ request → kept ≡ request → jobs' ≡ jobs ++ (record { process = p; ticket = ticket; request = kept }) ∷ [] → scene_from w' seats failing jobs' ≡ offered (scene_from w seats failing jobs) p request
+offered_scene_now w w' seats failing p request told' kept ticket jobs jobs' offered' j start number e same same' put =
+    let with_job : Request → List Job = λ r. jobs ++ (record { process = p; ticket = ticket; request = r }) ∷ [] in
+    let told_is : w' ≡ held.told w (items.Queued p ticket request ∷ []) = e ∙ ap (λ (r : Request). held.told w (items.Queued p ticket r ∷ [])) same in
+    ap (λ (v : Held). scene_from v seats failing jobs') told_is
+    ∙ ap (λ (l : List Job). scene_from (held.told w (items.Queued p ticket request ∷ [])) seats failing l) (put ∙ ap with_job same')
+    ∙ offered_scene w seats failing p request ticket jobs offered' j start number
+
+-- ---- what a job that is taken comes to
+
+-- the ticket in front can be taken
+pub may_take : (w : Held) (seats : List Seat) (failing : List Failing) (jobs : List Job) (offered' : List Offered) (who : Who) (ticket : Ticket) → w.past.start ≡ [] → AreJobs (state_of w.past) jobs offered' → IsFree (scene_from w seats failing jobs) who
+    → Some ticket ≡ option_map (λ (x : Waiting). x.ticket) (front (jobs_of who.process jobs)) → IsLegal (state_of w.past) (items.Taken who ticket)
+may_take w seats failing jobs offered' who ticket start j free e =
+    (ap (λ (s : State). s.halted who.process) (state_is w start) ∙ free.0, subst (λ (tickets : List Ticket). IsFront tickets ticket) (sym (j.tickets who.process)) (front_is (jobs_of who.process jobs) ticket e))
+
+-- the job that was taken out is that in front
+same_ticket : (jobs : List Waiting) (ticket : Ticket) (job : Waiting) → Some ticket ≡ option_map (λ (x : Waiting). x.ticket) (front jobs) → Some job ≡ front jobs → ticket ≡ job.ticket
+same_ticket [] ticket job e at = absurd cc
+same_ticket (x ∷ jobs) ticket job e at = let same : job ≡ x = cc in let front_ticket : ticket ≡ x.ticket = cc in front_ticket ∙ sym (ap (λ (y : Waiting). y.ticket) same)
+
+module _ {apart : Who → Bool} (w w' : Held) (seats seats' out : List Seat) (failing : List Failing) (who : Who) (ticket : Ticket) (job : Job) (jobs jobs' : List Job) (offered' : List Offered) (a : AreSeated apart w seats) (known : apart who ≡ false) (j : AreJobs (state_of w.past) jobs offered') (free : IsFree (scene_from w seats failing jobs) who)
+    (first : Some ticket ≡ option_map (λ (x : Waiting). x.ticket) (front (jobs_of who.process jobs))) (told_is : w' ≡ held.told w (items.Taken who ticket ∷ [])) (at : option_map waiting_of (Some job) ≡ front (jobs_of who.process jobs))
+    (left : (q : ℕ) → jobs_of q jobs' ≡ cond (nat_eq q who.process) (drop 1 (jobs_of q jobs)) (jobs_of q jobs)) (kept : out ≡ seats) (put : seats' ≡ seats_with who (Some (tasks.Asked job.request)) out) where
+  none : task_of seats who ≡ None
+  none = free_none seats who free.1
+
+  seats_are : seats' ≡ seats_with who (Some (tasks.Asked job.request)) seats
+  seats_are = put ∙ ap (seats_with who (Some (tasks.Asked job.request))) kept
+
+  taken_is : w' ≡ held.told w (items.Taken who job.ticket ∷ [])
+  taken_is = told_is ∙ ap (λ (t : Ticket). held.told w (items.Taken who t ∷ [])) (same_ticket (jobs_of who.process jobs) ticket (waiting_of job) first at)
+
+  pub taken_seated_now : AreSeated apart w' seats'
+  taken_seated_now =
+      let goes : (state_of w.past).halted who.process ≡ false = ap (λ (s : State). s.halted who.process) (state_is w a.start) ∙ free.0 in
+      let mid : AreSeated apart (held.told w (items.Taken who ticket ∷ [])) seats = taken_seated w seats who ticket a known goes none (may_take w seats failing jobs offered' who ticket a.start j free first) in
+      subst (λ (v : Held). AreSeated apart v seats') (sym told_is)
+      (subst (AreSeated apart (held.told w (items.Taken who ticket ∷ []))) (sym seats_are)
+      (asked_seated (held.told w (items.Taken who ticket ∷ [])) seats who job.request mid none (job_fits (state_of w.past) jobs offered' who.process job j at)))
+
+  pub taken_jobs_now : AreJobs (state_of w'.past) jobs' offered'
+  taken_jobs_now = subst (λ (v : Held). AreJobs (state_of v.past) jobs' offered') (sym told_is) (taken_jobs w who ticket jobs jobs' offered' j left)
+
+  pub taken_scene_now : scene_from w' seats' failing jobs' ≡ taken (scene_from w seats failing jobs) who (jobs_of who.process jobs)
+  taken_scene_now =
+      ap (λ (v : Held). scene_from v seats' failing jobs') taken_is
+      ∙ ap (λ (s : List Seat). scene_from (held.told w (items.Taken who job.ticket ∷ [])) s failing jobs') seats_are
+      ∙ taken_scene w seats failing who job jobs jobs' at left
+
+-- a job that was put at the end, where there was room for it
+pub put_last : (ok : Bool) (jobs kept jobs' : List Job) (job : Job) → jobs' ≡ cond ok (kept ++ job ∷ []) kept → ok ≡ true → kept ≡ jobs → jobs' ≡ jobs ++ job ∷ []
+put_last ok jobs kept jobs' job put fine same = put ∙ ap (λ (b : Bool). cond b (kept ++ job ∷ []) kept) fine ∙ ap (λ (l : List Job). l ++ job ∷ []) same
+
+-- the counts of jobs that were offered, where room was made before
+pub counted_so : (p count : ℕ) (offered' kept offered'' : List Offered) → kept ≡ offered' → ((q : ℕ) → offered_to offered'' q ≡ cond (nat_eq q p) count (offered_to kept q)) → (q : ℕ) → offered_to offered'' q ≡ cond (nat_eq q p) count (offered_to offered' q)
+counted_so p count offered' kept offered'' same counted q = counted q ∙ ap (λ (l : List Offered). cond (nat_eq q p) count (offered_to l q)) same

@@ -1,0 +1,42 @@
+use Rattle.std.proofs.Common.{◌≡◌, ◌∙◌, false, List, sym, ap}
+use Rattle.std.proofs.lemmas.Result.{on_ok_weaker}
+use Rattle.file_log.specs.State.{State, state_of}
+use Rattle.sim_world.specs.declared.failing.Failing.{Failing}
+use Rattle.sim_world.specs.Tables.{failing_of}
+use Rattle.sim_world.specs.Stages.{scene_from}
+use Rattle.sim_world.proofs.Moving.{moved_seated, moved_jobs, moved_plays}
+use Rattle.sim_world.proofs.Ordered.{state_is}
+use Rattle.sim_world.proofs.Passing.{known_apart}
+use Rattle.sim_world.proofs.Turning.{turn_applied}
+use Rattle.sim_world.proofs.stage.Stage.step.Goals as goal
+
+pub returns-clause-order : goal.returns-clause-order
+returns-clause-order c =
+    let old = c.args.self.now in
+    let who = c.args.who in
+    let w = c.advance-moved.new.world in
+    let goes : (state_of old.world.past).halted who.process ≡ false = sym c.is_halted.ensures ∙ c.if-is_halted.false in
+    let out = c.take_out.new.seats.items in
+    let seats = c.put_in.new.seats.items in
+    let taken = c.in-Some.ensures in
+    record {
+      seated = moved_seated who old.world w old.seats.items out seats c.in-Some.task c.advance-moved.result c.requires.order.seated (known_apart old.outsider who c.requires.elsewhere) goes taken.task taken.others taken.once c.put_in.ensures c.failing_of-failing.result c.advance-moved.ensures;
+      queues = moved_jobs who old.world w old.seats.items out seats c.in-Some.task c.advance-moved.result c.requires.order.seated (known_apart old.outsider who c.requires.elsewhere) goes taken.task taken.others taken.once c.put_in.ensures c.failing_of-failing.result old.jobs.items old.offered.items c.advance-moved.ensures c.requires.order.queues;
+    }
+
+pub returns-clause-plays : goal.returns-clause-plays
+returns-clause-plays c =
+    let old = c.args.self.now in
+    let who = c.args.who in
+    let w = c.advance-moved.new.world in
+    let goes : (state_of old.world.past).halted who.process ≡ false = sym c.is_halted.ensures ∙ c.if-is_halted.false in
+    let goes_there = sym (ap (λ (s : State). s.halted who.process) (state_is old.world c.requires.order.seated.start)) ∙ goes in
+    let out = c.take_out.new.seats.items in
+    let seats = c.put_in.new.seats.items in
+    let taken = c.in-Some.ensures in
+    let waits : c.failing_of-failing.result ≡ failing_of old.failing.items who = c.failing_of-failing.ensures ∙ ap (λ (failing : List Failing). failing_of failing who) c.deref.ensures.value in
+    on_ok_weaker c.settle.result
+    (λ brought. turn_applied (scene_from old.world old.seats.items old.failing.items old.jobs.items) (scene_from w seats c.settle.new.failing.items old.jobs.items) goes_there
+        (moved_plays who old.world w old.seats.items out seats c.in-Some.task c.advance-moved.result c.requires.order.seated (known_apart old.outsider who c.requires.elsewhere) goes taken.task taken.others taken.once c.put_in.ensures
+            old.failing.items c.settle.new.failing.items old.jobs.items c.failing_of-failing.result waits c.settle.ensures.failing brought c.advance-moved.ensures))
+    c.settle.ensures.brought
