@@ -1,5 +1,5 @@
 use Rattle.sim_world.proofs.Owning.{own_seated, own_jobs}
-use Rattle.sim_world.proofs.outsider.Stage.own_step.Goals as goal
+use Rattle.sim_world.proofs.stage.Stage.own_step.Goals as goal
 
 pub returns-clause-order : goal.returns-clause-order
 returns-clause-order c =
