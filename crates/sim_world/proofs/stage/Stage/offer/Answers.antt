@@ -7,6 +7,7 @@ use Rattle.sim_world.specs.Played.{MayOffer}
 use Rattle.sim_world.specs.Scene.{Scene}
 use Rattle.sim_world.specs.Stages.{scene_from}
 use Rattle.sim_world.specs.Tables.{offered_to}
+use Rattle.sim_world.proofs.Passing.{unseated_pass}
 use Rattle.sim_world.proofs.Turning.{may_offer_queue, offered_now, offered_scene_now, put_last, counted_so, unseated_now, turn_applied}
 use Rattle.sim_world.proofs.stage.Stage.offer.Goals as goal
 
@@ -61,3 +62,13 @@ returns-clause-plays c =
     turn_applied scene new may
     (offered_scene_now old.world c.queued.new.self old.seats.items old.failing.items p request c.in_ok-told.told c.in_ok-request.request ticket old.jobs.items c.push-added.new.self.items old.offered.items
         c.requires.queues c.requires.seated.start ticket_is c.in_ok-queued.ensures.ok c.in_ok-told.ensures c.in_ok-request.ensures put)
+
+pub returns-clause-grows : goal.returns-clause-grows
+returns-clause-grows c =
+    let old = c.args.self.now in
+    let p = c.args.process in
+    let yes : c.may_offer.result ≡ true = search rules in
+    let number : c.offered_to-number.result ≡ offered_to old.offered.items p = c.offered_to-number.ensures ∙ ap (λ (offered : List Offered). offered_to offered p) c.deref.ensures.value in
+    let ticket : Ticket = record { side = 0; number = c.offered_to-number.result } in
+    let can = may_offer_queue old.world old.seats.items old.failing.items old.jobs.items old.offered.items p c.args.request.now c.in_ok-told.told ticket c.requires.seated.start c.requires.queues (c.may_offer.ensures.0 yes) c.in_ok-told.ensures number c.request_known.ensures in
+    unseated_pass old.outsider old.world c.queued.new.self (Queued p ticket c.in_ok-told.told) c.in_ok-queued.ensures.ok (tt, can) refl (λ me is. refl)

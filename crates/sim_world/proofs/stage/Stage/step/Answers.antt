@@ -5,10 +5,17 @@ use Rattle.sim_world.specs.declared.failing.Failing.{Failing}
 use Rattle.sim_world.specs.Tables.{failing_of}
 use Rattle.sim_world.specs.Stages.{scene_from}
 use Rattle.sim_world.proofs.Moving.{moved_seated, moved_jobs, moved_plays}
-use Rattle.sim_world.proofs.Ordered.{state_is}
-use Rattle.sim_world.proofs.Passing.{known_apart}
+use Rattle.sim_world.proofs.Ordered.{state_is, may_advance}
+use Rattle.sim_world.proofs.Passing.{known_apart, advance_passes}
 use Rattle.sim_world.proofs.Turning.{turn_applied}
 use Rattle.sim_world.proofs.stage.Stage.step.Goals as goal
+
+pub advance-moved-requires-clause-may : goal.advance-moved-requires-clause-may
+advance-moved-requires-clause-may c =
+    let old = c.args.self.now in
+    let who = c.args.who in
+    let goes : (state_of old.world.past).halted who.process ≡ false = sym c.is_halted.ensures ∙ c.if-is_halted.false in
+    may_advance who old.world old.seats.items c.in-Some.task c.requires.order.seated (known_apart old.outsider who c.requires.elsewhere) goes (sym c.in-Some.ensures.task)
 
 pub returns-clause-order : goal.returns-clause-order
 returns-clause-order c =
@@ -40,3 +47,8 @@ returns-clause-plays c =
         (moved_plays who old.world w old.seats.items out seats c.in-Some.task c.advance-moved.result c.requires.order.seated (known_apart old.outsider who c.requires.elsewhere) goes taken.task taken.others taken.once c.put_in.ensures
             old.failing.items c.settle.new.failing.items old.jobs.items c.failing_of-failing.result waits c.settle.ensures.failing brought c.advance-moved.ensures))
     c.settle.ensures.brought
+
+pub returns-clause-grows : goal.returns-clause-grows
+returns-clause-grows c =
+    let old = c.args.self.now in
+    advance_passes old.outsider c.args.who old.world c.advance-moved.new.world c.in-Some.task c.failing_of-failing.result c.advance-moved.result c.requires.elsewhere c.advance-moved.ensures
