@@ -18,8 +18,6 @@ mod row;
 mod row_list;
 mod seat;
 mod store;
-#[cfg(test)]
-mod tests;
 mod text;
 mod text_list;
 

@@ -8,8 +8,6 @@ mod error;
 mod fields;
 mod item;
 mod refusal;
-#[cfg(test)]
-mod tests;
 mod writing;
 
 pub use any::{Owned, driver_of, read_any};

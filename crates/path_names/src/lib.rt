@@ -5,8 +5,6 @@ mod digits;
 mod paths;
 mod place;
 mod ro_name;
-#[cfg(test)]
-mod tests;
 
 pub use paths::{Paths, has_path, path_of};
 pub use ro_name::is_ro_name;

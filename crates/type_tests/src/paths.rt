@@ -1,5 +1,5 @@
-use super::*;
 use cache_types::{Key, Name, NoMemory, Text, TextList};
+use path_names::{Paths, has_path, path_of};
 use std::alloc::Global;
 
 // The SHA-1 of `abc`.

@@ -1,4 +1,4 @@
-use crate::{
+use cache_types::{
     Answer, Bytes, Driver, DriverError, Key, KeyList, Layout, Meta, Name, Request, RoPlan, Row,
     RowList, Store, Text, TextList, blob_len, driver_blob, front_len,
 };

@@ -1,5 +1,5 @@
-use super::*;
 use cache_types::{Driver, MAX_BLOB, MAX_ITEM, MAX_KEYS, Meta};
+use item_frame::{check_item, driver_of, item_len, read_any, read_blob, read_item, write_item};
 use std::test::Fail;
 
 // The blob `abc` for the driver `d`, `g`, 0, byte by byte; the sum of `abc` is 0x352441c2.
