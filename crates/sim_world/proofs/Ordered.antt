@@ -1,13 +1,8 @@
 -- What is kept of a world and its seats when items come.
-use Rattle.std.proofs.Common.{◌≡◌, ◌⊎◌, inl, inr, ℕ, ◌+◌, cond, nat_eq, ◌&&◌, Bool, true, false, List, [], ◌∷◌, ◌++◌, fold, length, Option, Some, None, refl, sym, ap, subst, ◌∙◌, arith}
-use Rattle.std.proofs.lemmas.Bool.{eqb-true, eq-eqb}
-use Rattle.std.proofs.lemmas.List.Sums.{fold-append}
-use Rattle.cache_types.specs.declared.request.Request.{Request}
+use Rattle.std.proofs.Common.{◌≡◌, ℕ, cond, nat_eq, ◌&&◌, Bool, true, false, List, [], ◌∷◌, ◌++◌, Option, Some, None, refl, sym, ap, subst, ◌∙◌, arith}
 use Rattle.cache_types.specs.declared.seat.Who.{Who}
 use Rattle.cache_types.specs.Seats.{same_seat}
 use Rattle.file_log.specs.declared.item.LogItem.{LogItem}
-use Rattle.file_log.specs.declared.item.LogItem.TheVariants as items
-use Rattle.file_log.specs.declared.reply.Reply.{Reply}
 use Rattle.file_log.specs.Disk.{Start}
 use Rattle.file_log.specs.Legal.{Legal, IsLegal}
 use Rattle.file_log.specs.Log.{History, seat_of}
@@ -15,12 +10,9 @@ use Rattle.file_log.specs.State.{State, first, after, state_of}
 use Rattle.file_log.proofs.All.{seat_self}
 use Rattle.file_log.proofs.Logs.{All-append}
 use Rattle.file_model.specs.Held.{Held, told}
-use Rattle.file_model.specs.Steps.{is_inside}
 use Rattle.files_api.specs.declared.machine.Step.{Step}
 use Rattle.files_api.specs.declared.machine.Step.TheVariants.{Ask, Done}
-use Rattle.folder_rules.specs.Changes.{with_item}
 use Rattle.folder_rules.specs.Places.{past, Cooperating}
-use Rattle.folder_rules.specs.Rules.{KeepsRules}
 use Rattle.op_machine.specs.declared.op.Op.{Op}
 use Rattle.op_machine.specs.Machine.{asks, asked}
 use Rattle.op_machine.specs.Places.{Where}
