@@ -1,13 +1,8 @@
 -- What is kept of a world and its seats when items come.
-use Rattle.std.proofs.Common.{◌≡◌, ◌⊎◌, inl, inr, ℕ, ◌+◌, cond, nat_eq, ◌&&◌, Bool, true, false, List, [], ◌∷◌, ◌++◌, fold, length, Option, Some, None, refl, sym, ap, subst, ◌∙◌, arith}
-use Rattle.std.proofs.lemmas.Bool.{eqb-true, eq-eqb}
-use Rattle.std.proofs.lemmas.List.Sums.{fold-append}
-use Rattle.cache_types.specs.declared.request.Request.{Request}
+use Rattle.std.proofs.Common.{◌≡◌, ℕ, cond, nat_eq, ◌&&◌, Bool, true, false, List, [], ◌∷◌, ◌++◌, Option, Some, None, refl, sym, ap, subst, ◌∙◌, arith}
 use Rattle.cache_types.specs.declared.seat.Who.{Who}
 use Rattle.cache_types.specs.Seats.{same_seat}
 use Rattle.file_log.specs.declared.item.LogItem.{LogItem}
-use Rattle.file_log.specs.declared.item.LogItem.TheVariants as items
-use Rattle.file_log.specs.declared.reply.Reply.{Reply}
 use Rattle.file_log.specs.Disk.{Start}
 use Rattle.file_log.specs.Legal.{Legal, IsLegal}
 use Rattle.file_log.specs.Log.{History, seat_of}
@@ -15,25 +10,22 @@ use Rattle.file_log.specs.State.{State, first, after, state_of}
 use Rattle.file_log.proofs.All.{seat_self}
 use Rattle.file_log.proofs.Logs.{All-append}
 use Rattle.file_model.specs.Held.{Held, told}
-use Rattle.file_model.specs.Steps.{is_inside}
 use Rattle.files_api.specs.declared.machine.Step.{Step}
 use Rattle.files_api.specs.declared.machine.Step.TheVariants.{Ask, Done}
-use Rattle.folder_rules.specs.Changes.{with_item}
-use Rattle.folder_rules.specs.Places.{past}
-use Rattle.folder_rules.specs.Rules.{KeepsRules}
+use Rattle.folder_rules.specs.Places.{past, Cooperating}
 use Rattle.op_machine.specs.declared.op.Op.{Op}
 use Rattle.op_machine.specs.Machine.{asks, asked}
 use Rattle.op_machine.specs.Places.{Where}
 use Rattle.op_machine.proofs.Orderly.{OnlyMoves}
-use Rattle.seat_order.specs.Apart.{IsAt}
+use Rattle.seat_order.specs.Apart.{IsAt, IsOrderlyBut}
 use Rattle.seat_order.specs.Ready.{IsReady}
 use Rattle.seat_order.proofs.Readying.{ready_may_call, ready_place, ready_ending}
 use Rattle.seat_order.proofs.Moving.{at_asks, at_gives}
-use Rattle.seat_order.proofs.Coming.{unseated_passes}
+use Rattle.seat_order.proofs.Coming.{unseated_passes, none_is_apart}
 use Rattle.sim_world.specs.declared.seats.Seat.{Seat}
 use Rattle.sim_world.specs.declared.seats.Task.{Task}
 use Rattle.sim_world.specs.declared.seats.Task.TheVariants as tasks
-use Rattle.sim_world.specs.Stages.{where_in, where_of, seats_at, IsFit, AreSeated}
+use Rattle.sim_world.specs.Stages.{where_in, where_of, seats_at, apart_of, IsFit, AreSeated}
 use Rattle.sim_world.specs.Steps.{MayGo, MayAdvance}
 use Rattle.sim_world.specs.Tables.{task_of, Once, seats_with}
 
@@ -138,3 +130,10 @@ unseated_seated {apart = apart} w seats x a none legal = record {
   once = a.once;
   fits = a.fits;
 }
+
+-- ---- no outsider
+
+-- then no place breaks a rule
+pub alone_cooperate : (outsider : Option Who) (w : Held) (seats : List Seat) → AreSeated (apart_of outsider) w seats → outsider ≡ None → Cooperating w.past.log
+alone_cooperate outsider w seats a none =
+    (none_is_apart (seats_at seats) w.past.log (subst (λ (o : Option Who). IsOrderlyBut (apart_of o) (seats_at seats) w.past.log) none a.orderly)).cooperating

@@ -1,8 +1,8 @@
 -- What each turn but a step keeps, and that it is the schedule's.
-use Rattle.std.proofs.Common.{◌≡◌, ◌⊎◌, ◌↔◌, ◌<◌, inl, inr, ℕ, ◌+◌, cond, nat_eq, not, ◌&&◌, ◌||◌, Bool, true, false, IsTrue, List, [], ◌∷◌, ◌++◌, fold, length, map, drop, Option, Some, None, Result, Ok, Err, OnOk, OnErr, refl, sym, ap, subst, ◌∙◌, arith}
+use Rattle.std.proofs.Common.{◌≡◌, ◌↔◌, ◌<◌, inl, inr, ℕ, ◌+◌, cond, nat_eq, not, ◌||◌, Bool, true, false, IsTrue, List, [], ◌∷◌, ◌++◌, length, map, drop, Option, Some, None, Result, Ok, Err, OnOk, OnErr, refl, sym, ap, subst, ◌∙◌, arith}
 use Rattle.std.specs.Prelude.{is_none, option_map}
 use Rattle.std.specs.List.{Contains, AllByRecursion}
-use Rattle.std.proofs.lemmas.Bool.{false≢true, eqb-true, eq-eqb}
+use Rattle.std.proofs.lemmas.Bool.{false≢true, eqb-true}
 use Rattle.std.proofs.lemmas.List.Sums.{fold-append}
 use Rattle.cache_types.specs.declared.name.Name.TheVariants.{Ro, RoIdx}
 use Rattle.cache_types.specs.declared.request.Request.{Request}
@@ -11,9 +11,9 @@ use Rattle.cache_types.specs.Seats.{same_seat}
 use Rattle.file_log.specs.declared.item.LogItem.{LogItem}
 use Rattle.file_log.specs.declared.item.LogItem.TheVariants as items
 use Rattle.file_log.specs.declared.ticket.Ticket.{Ticket}
-use Rattle.file_log.specs.Legal.{Legal, IsLegal, IsPut, IsFront, MayQueue}
+use Rattle.file_log.specs.Legal.{IsLegal, IsPut, IsFront, MayQueue}
 use Rattle.file_log.specs.Fits.{RequestFits}
-use Rattle.file_log.specs.Log.{History, seat_of}
+use Rattle.file_log.specs.Log.{seat_of}
 use Rattle.file_log.specs.State.{State, first, after, state_of}
 use Rattle.file_model.specs.Held.{Held}
 use Rattle.file_model.specs.Held as held
@@ -28,12 +28,12 @@ use Rattle.sim_world.specs.declared.jobs.Offered.{Offered}
 use Rattle.sim_world.specs.declared.seats.Seat.{Seat}
 use Rattle.sim_world.specs.declared.seats.Task.{Task}
 use Rattle.sim_world.specs.declared.seats.Task.TheVariants as tasks
-use Rattle.sim_world.specs.Played.{Turns, GoesOn, IsFree, IsAbsent, MayOffer, offered, taken}
-use Rattle.sim_world.specs.Scene.{Scene, Activity, Idle, Asked, Inside, Waiting, opening, state_at, told, with_seat, with_queue, without_seats, next_ticket}
+use Rattle.sim_world.specs.Played.{Turns, IsFree, IsAbsent, MayOffer, offered, taken}
+use Rattle.sim_world.specs.Scene.{Scene, Idle, Asked, Waiting, opening, told, with_seat, with_queue, without_seats, next_ticket}
 use Rattle.sim_world.specs.Stages.{activity_of, scene_from, where_of, seats_at, IsFit, AreSeated, AreJobs, IsJob}
 use Rattle.sim_world.specs.Tables.{task_of, Once, seats_with, jobs_of, waiting_of, front, offered_to}
 use Rattle.sim_world.proofs.JobTable.{one_more}
-use Rattle.sim_world.proofs.Ordered.{past_is, state_is, legal_then, Changes, put_new, changed_here, others_stay, fits_then, unseated_seated}
+use Rattle.sim_world.proofs.Ordered.{state_is, legal_then, put_new, fits_then, unseated_seated}
 use Rattle.sim_world.proofs.Scenes.{same_scene, activity_then}
 use Rattle.sim_world.proofs.Stepping.{state_told}
 

@@ -28,9 +28,9 @@ returns-clause-plays c =
     let absent : IsAbsent scene root c.args.name.now = (absent_scene old.world old.seats.items old.failing.items old.jobs.items root c.args.name.now c.requires.seated.start).1 (c.in_ok-absent.ensures.0 yes) in
     let item : LogItem = Install root c.in_ok-name.name c.in_ok-main.main c.in_ok-index.index in
     let same : item ≡ Install root c.args.name.now c.args.main.now c.args.index.now =
-        ap (λ (name : List ℕ). Install root name c.in_ok-main.main c.in_ok-index.index) c.in_ok-name.ensures
-        ∙ ap (λ (main : List ℕ). Install root c.args.name.now main c.in_ok-index.index) c.in_ok-main.ensures
-        ∙ ap (λ (index : List ℕ). Install root c.args.name.now c.args.main.now index) c.in_ok-index.ensures in
+    ap (λ (name : List ℕ). Install root name c.in_ok-main.main c.in_ok-index.index) c.in_ok-name.ensures
+    ∙ ap (λ (main : List ℕ). Install root c.args.name.now main c.in_ok-index.index) c.in_ok-main.ensures
+    ∙ ap (λ (index : List ℕ). Install root c.args.name.now c.args.main.now index) c.in_ok-index.ensures in
     on_ok_weaker c.install.result
     (λ told_is. turn_applied scene new absent (unseated_scene old.world c.install.new.self old.seats.items old.failing.items old.jobs.items item told_is ∙ ap (told scene) same))
     c.install.ensures.ok

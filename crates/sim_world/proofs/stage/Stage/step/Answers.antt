@@ -44,8 +44,8 @@ returns-clause-plays c =
     let waits : c.failing_of-failing.result ≡ failing_of old.failing.items who = c.failing_of-failing.ensures ∙ ap (λ (failing : List Failing). failing_of failing who) c.deref.ensures.value in
     on_ok_weaker c.settle.result
     (λ brought. turn_applied (scene_from old.world old.seats.items old.failing.items old.jobs.items) (scene_from w seats c.settle.new.failing.items old.jobs.items) goes_there
-        (moved_plays who old.world w old.seats.items out seats c.in-Some.task c.advance-moved.result c.requires.order.seated (known_apart old.outsider who c.requires.elsewhere) goes taken.task taken.others taken.once c.put_in.ensures
-            old.failing.items c.settle.new.failing.items old.jobs.items c.failing_of-failing.result waits c.settle.ensures.failing brought c.advance-moved.ensures))
+    (moved_plays who old.world w old.seats.items out seats c.in-Some.task c.advance-moved.result c.requires.order.seated (known_apart old.outsider who c.requires.elsewhere) goes taken.task taken.others taken.once c.put_in.ensures
+    old.failing.items c.settle.new.failing.items old.jobs.items c.failing_of-failing.result waits c.settle.ensures.failing brought c.advance-moved.ensures))
     c.settle.ensures.brought
 
 pub returns-clause-grows : goal.returns-clause-grows
