@@ -4,6 +4,7 @@ use schedule_draws::schedule;
 use sim_world::play;
 use std::alloc::Global;
 use std::ops::Range;
+use std::process::Abort;
 use std::test::Fail;
 use world_log::{Verdict, check_log};
 
@@ -54,7 +55,7 @@ fn judged(alloc: Global, seed: u64, turns: usize, counts: &mut Counts) -> Result
 }
 
 /// Plays and judges the schedules of these seeds: each log is good, and each thing was done many times.
-fn are_good(rt: &HostRuntime, seeds: Range<u64>) -> Result<(), Fail> {
+fn are_good(rt: &impl Abort, alloc: Global, seeds: Range<u64>) -> Result<(), Fail> {
     let mut counts = Counts {
         stored: 0,
         kept: 0,
@@ -64,7 +65,7 @@ fn are_good(rt: &HostRuntime, seeds: Range<u64>) -> Result<(), Fail> {
         stops: 0,
     };
     for seed in seeds {
-        let verdict = judged(rt.alloc(), seed, 200, &mut counts)?;
+        let verdict = judged(alloc, seed, 200, &mut counts)?;
         assert_eq!(rt; verdict, Verdict::Good, "seed {seed}");
     }
     assert!(rt; counts.are_many(), "{counts:?}");
@@ -75,20 +76,20 @@ fn are_good(rt: &HostRuntime, seeds: Range<u64>) -> Result<(), Fail> {
 /// log of each of a thousand schedules is good.
 #[test]
 fn the_first_drawn_schedules_are_good(rt: HostRuntime) -> Result<(), Fail> {
-    are_good(&rt, 0..250)
+    are_good(&rt, rt.alloc(), 0..250)
 }
 
 #[test]
 fn the_second_drawn_schedules_are_good(rt: HostRuntime) -> Result<(), Fail> {
-    are_good(&rt, 250..500)
+    are_good(&rt, rt.alloc(), 250..500)
 }
 
 #[test]
 fn the_third_drawn_schedules_are_good(rt: HostRuntime) -> Result<(), Fail> {
-    are_good(&rt, 500..750)
+    are_good(&rt, rt.alloc(), 500..750)
 }
 
 #[test]
 fn the_last_drawn_schedules_are_good(rt: HostRuntime) -> Result<(), Fail> {
-    are_good(&rt, 750..1_000)
+    are_good(&rt, rt.alloc(), 750..1_000)
 }
