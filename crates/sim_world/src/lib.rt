@@ -1,5 +1,6 @@
 //! Schedules played on one world: seats do requests in turns, one item of the log a step, while calls fail
 //! and processes are stopped where the schedule says so. [`play`] gives the world that a schedule comes to.
+//! A [`Stage`] plays turn by turn, between which a seat of the caller's own may call.
 #![tactic(auto)]
 
 mod built;

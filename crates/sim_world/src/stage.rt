@@ -1,4 +1,4 @@
-ghost use Rattle.std.specs.Prelude.{◌≡◌, ◌↔◌, [], None, false, IsTrue, IfOk, OnOk};
+ghost use Rattle.std.specs.Prelude.{◌≡◌, ◌↔◌, [], None, false, true, IsTrue, IfOk, OnOk};
 ghost use Rattle.cache_types.specs.declared.name.Name.TheVariants.{Ro, RoIdx};
 ghost use Rattle.file_log.specs.State.{state_of, disk_of};
 ghost use Rattle.op_machine.specs.Requests.{IsBuilt};
@@ -62,19 +62,20 @@ impl Stage {
         }
     }
 
-    /// Plays one turn. A turn of the outsider's process does nothing.
+    /// Plays one turn. One of the outsider's process does nothing.
     ///
-    /// The outsider may rely on this, also after a refusal: the items that come are none of its own, and none
-    /// of them stops its process.
+    /// The outsider may rely on this: the items that come are none of its own, and none of them stops its
+    /// process.
     ///
     /// # Errors
     ///
-    /// `NoMemory` where there was no memory that the schedule didn't take away. Then nothing was played of
-    /// the turn; but a seat whose step had no memory for its call goes on as after a call that was refused
-    /// memory, and the log may have a `Failed` of it that the schedule doesn't have.
+    /// `NoMemory` where there was no memory that the schedule didn't take away. The stage stays in order, and
+    /// what the outsider relies on holds then too; but the log may no longer be the schedule's, since a seat
+    /// whose step had no memory for its call goes on as after a call that was refused memory.
     pub fn turn(&mut self, turn: &Turn) -> Result<(), NoMemory>
         requires { InOrder self.old }
         ensures order { InOrder self.new }
+        ensures skips { concerns self.old.outsider turn.now ≡ true → self.new ≡ self.old }
         ensures plays { concerns self.old.outsider turn.now ≡ false → OnOk result (Plays (scene_of self.old) turn.now (scene_of self.new)) }
         ensures outsider { self.new.outsider ≡ self.old.outsider }
         ensures grows { PassesBy self.old.outsider self.old.world self.new.world }
