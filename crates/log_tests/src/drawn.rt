@@ -65,7 +65,7 @@ fn are_good(rt: &impl Abort, alloc: Global, seeds: Range<u64>) -> Result<(), Fai
         stops: 0,
     };
     for seed in seeds {
-        let verdict = judged(alloc, seed, 200, &mut counts)?;
+        let verdict = judged(alloc, seed, 600, &mut counts)?;
         assert_eq!(rt; verdict, Verdict::Good, "seed {seed}");
     }
     assert!(rt; counts.are_many(), "{counts:?}");
