@@ -1,5 +1,5 @@
 -- What a step of a busy seat keeps, and that it is the schedule's.
-use Rattle.std.proofs.Common.{◌≡◌, inl, inr, ℕ, cond, ◌&&◌, Bool, true, false, List, [], ◌∷◌, ◌++◌, Option, Some, None, refl, sym, ap, subst, ◌∙◌}
+use Rattle.std.proofs.Common.{◌≡◌, ◌⊎◌, inl, inr, ℕ, cond, ◌&&◌, Bool, true, false, List, [], ◌∷◌, ◌++◌, Option, Some, None, refl, sym, ap, subst, ◌∙◌}
 use Rattle.cache_types.specs.declared.answer.Answer.{Answer}
 use Rattle.cache_types.specs.declared.request.Request.{Request}
 use Rattle.cache_types.specs.declared.seat.Who.{Who}
@@ -9,7 +9,15 @@ use Rattle.file_log.specs.declared.item.LogItem.{LogItem}
 use Rattle.file_log.specs.declared.item.LogItem.TheVariants as items
 use Rattle.file_log.specs.State.{State, state_of}
 use Rattle.file_log.proofs.All.{seat_self}
+use Rattle.file_log.specs.declared.call.Call.TheVariants as calls
+use Rattle.file_log.specs.declared.reply.Reply.{Reply}
+use Rattle.file_log.specs.declared.reply.Reply.TheVariants as replies
+use Rattle.file_log.specs.Exchange.{items_refused}
+use Rattle.std.proofs.lemmas.List.{append-nil}
+use Rattle.file_model.specs.declared.step.Fate.{Fate}
+use Rattle.file_model.specs.declared.step.Fate.TheVariants as fates
 use Rattle.file_model.specs.declared.step.Progress.{Progress}
+use Rattle.file_model.specs.declared.step.Progress.TheVariants as progresses
 use Rattle.file_model.specs.Held.{Held}
 use Rattle.file_model.specs.Held as held
 use Rattle.file_model.specs.Steps.{step_items, StepFits, IsFated, is_inside}
@@ -36,11 +44,31 @@ use Rattle.sim_world.specs.declared.seats.Task.TheVariants as tasks
 use Rattle.sim_world.specs.Played.{Steps}
 use Rattle.sim_world.specs.Scene.{Scene, Activity, Idle, Asked, Inside, told, with_seat, with_failing}
 use Rattle.sim_world.specs.Stages.{where_in, where_of, seats_at, activity_of, scene_from, AreSeated, AreJobs}
-use Rattle.sim_world.specs.Steps.{fate_of, brought_by, IsBrought, is_failure, Asks, Ends, Goes, Begins, Advances}
+use Rattle.sim_world.specs.Steps.{fate_of, brought_made, brought_by, IsBrought, is_failure, Asks, Ends, Goes, Begins, Waits, Advances}
 use Rattle.sim_world.specs.Tables.{task_of, Once, failing_of}
 use Rattle.sim_world.proofs.Ordered.{state_is, Changes}
 use Rattle.sim_world.proofs.Stepping.{step_leaves, leaves_told, jobs_stay, begin_seated, wait_seated, end_seated, ask_seated, told_inside}
 use Rattle.sim_world.proofs.Scenes.{same_scene, activity_then, Tells, Fails, call_told}
+
+-- ---- want of memory that the schedule didn't ask for
+
+no_lack : brings.Item ≡ brings.Lack → ⊥
+no_lack e = absurd cc
+
+made_lacks : (reply : Reply) → brought_made reply ≡ brings.Lack → reply ≡ replies.NoMemory
+made_lacks replies.NoMemory e = refl
+made_lacks reply e = absurd cc
+
+-- it is a call's that was made
+lacks_so : (fate : Fate) (progress : Progress) → brought_by fate progress ≡ brings.Lack → progress ≡ progresses.Reply replies.NoMemory
+lacks_so fate progresses.More e = absurd cc
+lacks_so fates.Go (progresses.Reply reply) e = ap (λ (r : Reply). progresses.Reply r) (made_lacks reply e)
+lacks_so fates.Fail (progresses.Reply reply) e = absurd cc
+lacks_so fates.NoMemory (progresses.Reply reply) e = absurd cc
+
+refused_so : (who : Who) (call : Call) → (items_refused who true call ≡ []) ⊎ (items_refused who true call ≡ items.Failed who true ∷ [])
+refused_so who (calls.Tell note) = inl refl
+refused_so who call = inr refl
 
 module _ {apart : Who → Bool} (who : Who) (w w' : Held) (seats seats' : List Seat) (moved : Moved) (a : AreSeated apart w seats) (known : apart who ≡ false) (goes : (state_of w.past).halted who.process ≡ false) (changes : Changes who moved.task seats seats') (once : Once seats') where
   alive : (state_of (past w.past.log)).halted who.process ≡ false
@@ -107,12 +135,12 @@ module _ {apart : Who → Bool} (who : Who) (w w' : Held) (seats seats' : List S
     one_used : moved.brought ≡ brings.Failure → (v : Who) → new.failing v ≡ cond (same_seat v who) None (old.failing v)
     one_used e v = settled v ∙ ap (λ (b : Brought). cond (is_failure b && same_seat v who) None (old.failing v)) e
 
-    inside_by : (v : Who) (b : Bool) → same_seat v who ≡ b → old.seats who ≡ Inside → cond b Inside (old.seats v) ≡ old.seats v
-    inside_by v true e at = sym (ap (λ (x : Who). old.seats x) (same_seat-true v who e) ∙ at)
-    inside_by v false e at = refl
+    stays_by : (activity : Activity) (v : Who) (b : Bool) → same_seat v who ≡ b → old.seats who ≡ activity → cond b activity (old.seats v) ≡ old.seats v
+    stays_by activity v true e at = sym (ap (λ (x : Who). old.seats x) (same_seat-true v who e) ∙ at)
+    stays_by activity v false e at = refl
 
     still_inside : (operation : Operation) → moved.task ≡ Some (tasks.Begun operation) → old.seats who ≡ Inside → (v : Who) → new.seats v ≡ old.seats v
-    still_inside operation e at v = seats_then (Some (tasks.Begun operation)) e v ∙ inside_by v (same_seat v who) refl at
+    still_inside operation e at v = seats_then (Some (tasks.Begun operation)) e v ∙ stays_by Inside v (same_seat v who) refl at
 
     begin_plays : (request : Request) → Begins who request w w' moved → Steps old who (Asked request) new
     begin_plays request x =
@@ -128,10 +156,6 @@ module _ {apart : Who → Bool} (who : Who) (w w' : Held) (seats seats' : List S
           same_scene new (with_seat (told old item) who Idle) (log_then item x.told_is) (clock_then item x.told_is)
               (seats_then None (ap (λ (m : Moved). m.task) x.moved_is)) (none_used (ap (λ (m : Moved). m.brought) x.moved_is)) (λ p. refl),
         )
-
-    -- what brought an item, and what a failure
-    brought_item : (call : Call) (progress : Progress) → moved.brought ≡ brought_by (fate_of call (failing_of failing who)) progress → IsBrought moved.brought → IsBrought (brought_by (fate_of call (failing_of failing who)) progress)
-    brought_item call progress e b = subst IsBrought e b
 
     tells_plays : (operation : Operation) (news : List LogItem) → w' ≡ held.told w news → moved.task ≡ Some (tasks.Begun operation) → old.seats who ≡ Inside → moved.brought ≡ brings.Item → Tells who old (failing_of failing who) news → Steps old who Inside new
     tells_plays operation news e task at item t =
@@ -177,3 +201,38 @@ module _ {apart : Who → Bool} (who : Who) (w w' : Held) (seats seats' : List S
     -- a step that lacked no memory is the schedule's
     pub advance_plays : (task : Task) → task_of seats who ≡ Some task → IsBrought moved.brought → Advances who task (failing_of failing who) w w' moved → Steps old who (old.seats who) new
     advance_plays task at brought x = subst (λ (activity : Activity). Steps old who activity new) (sym (ap activity_of at)) (advance_by task at brought x)
+
+    -- ---- a step that had no memory
+
+    -- it is refused: nothing was done, or its call was refused memory
+    abbrev pub HadNone : Type 0
+    HadNone = (new ≡ old) ⊎ (new ≡ told old (items.Failed who true))
+
+    none_waits : moved.brought ≡ brings.Lack → (v : Who) → new.failing v ≡ old.failing v
+    none_waits e v = settled v ∙ ap (λ (b : Brought). cond (is_failure b && same_seat v who) None (old.failing v)) e
+
+    wait_lacks : (request : Request) → old.seats who ≡ Asked request → Waits request w w' moved → new ≡ old
+    wait_lacks request at x =
+        same_scene new old (ap (λ (v : Held). v.past.log) x.same) (ap (λ (v : Held). v.clock) x.same)
+        (λ v. seats_then (Some (tasks.Asked request)) (ap (λ (m : Moved). m.task) x.moved_is) v ∙ stays_by (Asked request) v (same_seat v who) refl at) (none_waits (ap (λ (m : Moved). m.brought) x.moved_is)) (λ p. refl)
+
+    told_lacks : (operation : Operation) (news : List LogItem) → w' ≡ held.told w news → moved.task ≡ Some (tasks.Begun operation) → old.seats who ≡ Inside → moved.brought ≡ brings.Lack → (news ≡ []) ⊎ (news ≡ items.Failed who true ∷ []) → HadNone
+    told_lacks operation news e task at lack (inl none) =
+        inl (same_scene new old (ap (λ (v : Held). v.past.log) e ∙ ap (λ (l : List LogItem). w.past.log ++ l) none ∙ append-nil w.past.log) (ap (λ (v : Held). v.clock) e) (still_inside operation task at) (none_waits lack) (λ p. refl))
+    told_lacks operation news e task at lack (inr one) =
+        let item : LogItem = items.Failed who true in
+        let told_is : w' ≡ held.told w (item ∷ []) = subst (λ (l : List LogItem). w' ≡ held.told w l) one e in
+        inr (same_scene new (told old item) (log_then item told_is) (clock_then item told_is) (still_inside operation task at) (none_waits lack) (λ p. refl))
+
+    goes_lacks : (step : Step) (n : Op) (done : ℕ) → seats_at seats who ≡ where_in step n done → old.seats who ≡ Inside → moved.brought ≡ brings.Lack → Goes who step n done (failing_of failing who) w w' moved → HadNone
+    goes_lacks (Ask call) n done at inside lack x =
+        let fate : Fate = fate_of call (failing_of failing who) in
+        let told_is = told_inside who w w' seats seats' moved a known goes changes once x.progress call done (inside_there n call done at) x.stepped in
+        let progress_is : x.progress ≡ progresses.Reply replies.NoMemory = lacks_so fate x.progress (sym (ap (λ (m : Moved). m.brought) x.moved_is) ∙ lack) in
+        told_lacks x.operation (items_refused who true call) (subst (λ (p : Progress). w' ≡ held.told w (step_items p who true call done)) progress_is told_is) (ap (λ (m : Moved). m.task) x.moved_is) inside lack (refused_so who call)
+    goes_lacks (Done given) n done at inside lack x = absurd (no_lack (sym (ap (λ (m : Moved). m.brought) x.moved_is) ∙ lack))
+
+    pub advance_lacks : (task : Task) → task_of seats who ≡ Some task → moved.brought ≡ brings.Lack → Advances who task (failing_of failing who) w w' moved → HadNone
+    advance_lacks (tasks.Asked request) at lack (inl x) = absurd (no_lack (sym (ap (λ (m : Moved). m.brought) x.moved_is) ∙ lack))
+    advance_lacks (tasks.Asked request) at lack (inr x) = inl (wait_lacks request (ap activity_of at) x)
+    advance_lacks (tasks.Begun operation) at lack x = goes_lacks operation.wants operation.machine operation.done (ap where_of at) (ap activity_of at) lack x

@@ -1,5 +1,5 @@
 -- A step of a busy seat, whose task is taken out of the table and put back after it; and one of a seat that is at nothing.
-use Rattle.std.proofs.Common.{◌≡◌, cond, ◌&&◌, Bool, true, false, List, Option, Some, None, refl, sym, ap, subst, ◌∙◌}
+use Rattle.std.proofs.Common.{◌≡◌, ◌⊎◌, cond, ◌&&◌, Bool, true, false, List, Option, Some, None, refl, sym, ap, subst, ◌∙◌}
 use Rattle.cache_types.specs.declared.seat.Who.{Who}
 use Rattle.cache_types.specs.Seats.{same_seat}
 use Rattle.file_log.specs.State.{state_of}
@@ -8,18 +8,20 @@ use Rattle.world_tables.proofs.Finds.{same_seat-true}
 use Rattle.sim_world.specs.declared.failing.Failing.{Failing}
 use Rattle.sim_world.specs.declared.jobs.Job.{Job}
 use Rattle.sim_world.specs.declared.jobs.Offered.{Offered}
+use Rattle.file_log.specs.declared.item.LogItem.TheVariants as items
+use Rattle.sim_world.specs.declared.operation.Brought.TheVariants as brings
 use Rattle.sim_world.specs.declared.operation.Moved.{Moved}
 use Rattle.sim_world.specs.declared.seats.Seat.{Seat}
 use Rattle.sim_world.specs.declared.seats.Task.{Task}
 use Rattle.sim_world.specs.Played.{Steps}
-use Rattle.sim_world.specs.Scene.{Activity}
+use Rattle.sim_world.specs.Scene.{Activity, told}
 use Rattle.sim_world.specs.Stages.{activity_of, where_of, seats_at, IsFit, scene_from, AreSeated, AreJobs}
 use Rattle.sim_world.specs.Steps.{Advances, IsBrought, is_failure}
 use Rattle.sim_world.specs.Tables.{task_of, Once, failing_of, seats_with}
 use Rattle.seat_order.proofs.Coming.{stopped_move}
 use Rattle.sim_world.proofs.Ordered.{Changes, put_back, once_back}
 use Rattle.sim_world.proofs.Scenes.{same_scene}
-use Rattle.sim_world.proofs.Advancing.{advance_seated, advance_jobs, advance_plays}
+use Rattle.sim_world.proofs.Advancing.{advance_seated, advance_jobs, advance_plays, advance_lacks}
 
 -- the seat was taken out of the table
 abbrev pub TakesOut : Who → List Seat → List Seat → Type 0
@@ -42,6 +44,11 @@ module _ {apart : Who → Bool} (who : Who) (w w' : Held) (seats out seats' : Li
       → Advances who task waits w w' moved → Steps (scene_from w seats failing jobs) who ((scene_from w seats failing jobs).seats who) (scene_from w' seats' failing' jobs)
   moved_plays failing failing' jobs waits is settled brought x =
       advance_plays who w w' seats seats' moved a known goes back once_now failing failing' jobs settled task (sym at) brought (subst (λ (f : Option Bool). Advances who task f w w' moved) is x)
+
+  pub moved_lacks : (failing failing' : List Failing) (jobs : List Job) (waits : Option Bool) → waits ≡ failing_of failing who → ((v : Who) → failing_of failing' v ≡ cond (is_failure moved.brought && same_seat v who) None (failing_of failing v)) → moved.brought ≡ brings.Lack
+      → Advances who task waits w w' moved → (scene_from w' seats' failing' jobs ≡ scene_from w seats failing jobs) ⊎ (scene_from w' seats' failing' jobs ≡ told (scene_from w seats failing jobs) (items.Failed who true))
+  moved_lacks failing failing' jobs waits is settled lack x =
+      advance_lacks who w w' seats seats' moved a known goes back once_now failing failing' jobs settled task (sym at) lack (subst (λ (f : Option Bool). Advances who task f w w' moved) is x)
 
 -- ---- a seat that is at nothing
 

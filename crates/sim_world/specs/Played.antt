@@ -101,6 +101,11 @@ Plays old (turns.SetList text) new = new ≡ told old (items.SetList text)
 Plays old (turns.Clock now) new = new ≡ record old { clock = now }
 Plays old turns.Own new = new ≡ old
 
+-- a turn that was refused for want of memory leaves all as it was; but where a step's call was refused it, the log may have that
+abbrev pub Refused : Scene → Turn → Scene → Type 0
+Refused old (turns.Step who) new = (new ≡ old) ⊎ (new ≡ told old (items.Failed who true))
+Refused old turn new = new ≡ old
+
 -- one turn after another
 abbrev pub Comes : Scene → List Turn → Scene → Type 0
 Comes old [] new = new ≡ old

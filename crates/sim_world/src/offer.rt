@@ -1,4 +1,4 @@
-ghost use Rattle.std.specs.Prelude.{◌≡◌, ◌↔◌, false, IsTrue, OnOk};
+ghost use Rattle.std.specs.Prelude.{◌≡◌, ◌↔◌, false, IsTrue, OnOk, OnErr};
 ghost use Rattle.sim_world.specs.Played.{Plays, MayOffer, concerns};
 ghost use Rattle.sim_world.specs.Stages.{InOrder, PassesBy, scene_of};
 ghost use Rattle.sim_world.specs.declared.turn.Turn.TheVariants as turns;
@@ -30,6 +30,7 @@ impl Stage {
         requires { InOrder self.old }
         ensures order { InOrder self.new }
         ensures plays { OnOk result (Plays (scene_of self.old) (turns.Offer process request.now) (scene_of self.new)) }
+        ensures refused { OnErr result (scene_of self.new ≡ scene_of self.old) }
         ensures outsider { self.new.outsider ≡ self.old.outsider }
         ensures grows { PassesBy self.old.outsider self.old.world self.new.world }
     {
@@ -62,6 +63,7 @@ impl Stage {
         requires elsewhere { concerns self.old.outsider (turns.Take who) ≡ false }
         ensures order { InOrder self.new }
         ensures plays { OnOk result (Plays (scene_of self.old) (turns.Take who) (scene_of self.new)) }
+        ensures refused { OnErr result (scene_of self.new ≡ scene_of self.old) }
         ensures outsider { self.new.outsider ≡ self.old.outsider }
         ensures grows { PassesBy self.old.outsider self.old.world self.new.world }
     {

@@ -1,8 +1,8 @@
-ghost use Rattle.std.specs.Prelude.{◌≡◌, ◌↔◌, [], None, false, true, IsTrue, IfOk, OnOk};
+ghost use Rattle.std.specs.Prelude.{◌≡◌, ◌↔◌, [], None, false, true, IsTrue, IfOk, OnOk, OnErr};
 ghost use Rattle.cache_types.specs.declared.name.Name.TheVariants.{Ro, RoIdx};
 ghost use Rattle.file_log.specs.State.{state_of, disk_of};
 ghost use Rattle.op_machine.specs.Requests.{IsBuilt};
-ghost use Rattle.sim_world.specs.Played.{Plays, GoesOn, IsFree, IsAbsent, concerns};
+ghost use Rattle.sim_world.specs.Played.{Plays, GoesOn, IsFree, IsAbsent, Refused, concerns};
 ghost use Rattle.sim_world.specs.Scene.{opening};
 ghost use Rattle.sim_world.specs.declared.turn.Turn.TheVariants as turns;
 
@@ -69,14 +69,15 @@ impl Stage {
     ///
     /// # Errors
     ///
-    /// `NoMemory` where there was no memory that the schedule didn't take away. The stage stays in order, and
-    /// what the outsider relies on holds then too; but the log may no longer be the schedule's, since a seat
-    /// whose step had no memory for its call goes on as after a call that was refused memory.
+    /// `NoMemory` where there was no memory that the schedule didn't take away. Then nothing was played,
+    /// except that a seat whose step had no memory for its call goes on as after a call that was refused
+    /// memory, and the log may have that. The stage stays in order, and what the outsider relies on holds.
     pub fn turn(&mut self, turn: &Turn) -> Result<(), NoMemory>
         requires { InOrder self.old }
         ensures order { InOrder self.new }
         ensures skips { concerns self.old.outsider turn.now ≡ true → self.new ≡ self.old }
         ensures plays { concerns self.old.outsider turn.now ≡ false → OnOk result (Plays (scene_of self.old) turn.now (scene_of self.new)) }
+        ensures refused { OnErr result (Refused (scene_of self.old) turn.now (scene_of self.new)) }
         ensures outsider { self.new.outsider ≡ self.old.outsider }
         ensures grows { PassesBy self.old.outsider self.old.world self.new.world }
     {
@@ -132,6 +133,7 @@ impl Stage {
         requires { InOrder self.old }
         ensures order { InOrder self.new }
         ensures plays { OnOk result (Plays (scene_of self.old) (turns.Start who request.now) (scene_of self.new)) }
+        ensures refused { OnErr result (scene_of self.new ≡ scene_of self.old) }
         ensures outsider { self.new.outsider ≡ self.old.outsider }
         ensures grows { PassesBy self.old.outsider self.old.world self.new.world }
     {
@@ -149,6 +151,7 @@ impl Stage {
         requires { InOrder self.old }
         ensures order { InOrder self.new }
         ensures plays { OnOk result (Plays (scene_of self.old) (turns.Fail who memory) (scene_of self.new)) }
+        ensures refused { OnErr result (scene_of self.new ≡ scene_of self.old) }
         ensures outsider { self.new.outsider ≡ self.old.outsider }
         ensures grows { PassesBy self.old.outsider self.old.world self.new.world }
     {
@@ -164,6 +167,7 @@ impl Stage {
         requires elsewhere { concerns self.old.outsider (turns.Stop process) ≡ false }
         ensures order { InOrder self.new }
         ensures plays { OnOk result (Plays (scene_of self.old) (turns.Stop process) (scene_of self.new)) }
+        ensures refused { OnErr result (scene_of self.new ≡ scene_of self.old) }
         ensures outsider { self.new.outsider ≡ self.old.outsider }
         ensures grows { PassesBy self.old.outsider self.old.world self.new.world }
     {
@@ -201,6 +205,7 @@ impl Stage {
         requires { InOrder self.old }
         ensures order { InOrder self.new }
         ensures plays { OnOk result (Plays (scene_of self.old) (turns.Install root name.now main.now index.now) (scene_of self.new)) }
+        ensures refused { OnErr result (scene_of self.new ≡ scene_of self.old) }
         ensures outsider { self.new.outsider ≡ self.old.outsider }
         ensures grows { PassesBy self.old.outsider self.old.world self.new.world }
     {
@@ -219,6 +224,7 @@ impl Stage {
         requires { InOrder self.old }
         ensures order { InOrder self.new }
         ensures plays { OnOk result (Plays (scene_of self.old) (turns.SetList text.now) (scene_of self.new)) }
+        ensures refused { OnErr result (scene_of self.new ≡ scene_of self.old) }
         ensures outsider { self.new.outsider ≡ self.old.outsider }
         ensures grows { PassesBy self.old.outsider self.old.world self.new.world }
     {
@@ -231,6 +237,7 @@ impl Stage {
         requires { InOrder self.old }
         ensures order { InOrder self.new }
         ensures plays { OnOk result (Plays (scene_of self.old) (turns.Clock now) (scene_of self.new)) }
+        ensures refused { OnErr result (scene_of self.new ≡ scene_of self.old) }
         ensures outsider { self.new.outsider ≡ self.old.outsider }
         ensures grows { PassesBy self.old.outsider self.old.world self.new.world }
     {

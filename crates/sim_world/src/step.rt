@@ -1,10 +1,11 @@
-ghost use Rattle.std.specs.Prelude.{◌≡◌, ◌&&◌, false, None, OnOk, if◌then◌else◌};
+ghost use Rattle.std.specs.Prelude.{◌≡◌, ◌&&◌, false, None, OnOk, OnErr, if◌then◌else◌};
 ghost use Rattle.cache_types.specs.Seats.{same_seat};
 ghost use Rattle.cache_types.specs.declared.seat.Who.{Who};
-ghost use Rattle.sim_world.specs.Played.{Plays, concerns};
+ghost use Rattle.sim_world.specs.Played.{Plays, Refused, concerns};
 ghost use Rattle.sim_world.specs.Stages.{InOrder, PassesBy, scene_of};
 ghost use Rattle.sim_world.specs.Steps.{IsBrought, is_failure};
 ghost use Rattle.sim_world.specs.Tables.{failing_of as the_failing};
+ghost use Rattle.sim_world.specs.declared.operation.Brought.TheVariants as brings;
 ghost use Rattle.sim_world.specs.declared.turn.Turn.{Turn};
 
 use crate::failing::{Failing, failing_of, use_up};
@@ -17,6 +18,7 @@ use cache_types::{NoMemory, Who};
 /// refused.
 fn settle(failing: &mut Vec<Failing>, who: Who, brought: Brought) -> Result<(), NoMemory>
     ensures brought { OnOk result (IsBrought brought) }
+    ensures lack { OnErr result (brought ≡ brings.Lack) }
     ensures failing { (w : Who) → the_failing failing.new.items w ≡ (if is_failure brought && same_seat w who then None else the_failing failing.old.items w) }
 {
     match brought {
@@ -37,6 +39,7 @@ impl Stage {
         requires elsewhere { concerns self.old.outsider (Turn.Step who) ≡ false }
         ensures order { InOrder self.new }
         ensures plays { OnOk result (Plays (scene_of self.old) (Turn.Step who) (scene_of self.new)) }
+        ensures refused { OnErr result (Refused (scene_of self.old) (Turn.Step who) (scene_of self.new)) }
         ensures outsider { self.new.outsider ≡ self.old.outsider }
         ensures grows { PassesBy self.old.outsider self.old.world self.new.world }
     {

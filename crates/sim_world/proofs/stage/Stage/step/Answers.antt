@@ -1,10 +1,10 @@
 use Rattle.std.proofs.Common.{◌≡◌, ◌∙◌, false, List, sym, ap}
-use Rattle.std.proofs.lemmas.Result.{on_ok_weaker}
+use Rattle.std.proofs.lemmas.Result.{on_ok_weaker, on_err_weaker}
 use Rattle.file_log.specs.State.{State, state_of}
 use Rattle.sim_world.specs.declared.failing.Failing.{Failing}
 use Rattle.sim_world.specs.Tables.{failing_of}
 use Rattle.sim_world.specs.Stages.{scene_from}
-use Rattle.sim_world.proofs.Moving.{moved_seated, moved_jobs, moved_plays}
+use Rattle.sim_world.proofs.Moving.{moved_seated, moved_jobs, moved_plays, moved_lacks}
 use Rattle.sim_world.proofs.Ordered.{state_is, may_advance}
 use Rattle.sim_world.proofs.Passing.{known_apart, advance_passes}
 use Rattle.sim_world.proofs.Turning.{turn_applied}
@@ -52,3 +52,15 @@ pub returns-clause-grows : goal.returns-clause-grows
 returns-clause-grows c =
     let old = c.args.self.now in
     advance_passes old.outsider c.args.who old.world c.advance-moved.new.world c.in-Some.task c.failing_of-failing.result c.advance-moved.result c.requires.elsewhere c.advance-moved.ensures
+
+pub returns-clause-refused : goal.returns-clause-refused
+returns-clause-refused c =
+    let old = c.args.self.now in
+    let who = c.args.who in
+    let goes : (state_of old.world.past).halted who.process ≡ false = sym c.is_halted.ensures ∙ c.if-is_halted.false in
+    let taken = c.in-Some.ensures in
+    let waits : c.failing_of-failing.result ≡ failing_of old.failing.items who = c.failing_of-failing.ensures ∙ ap (λ (failing : List Failing). failing_of failing who) c.deref.ensures.value in
+    on_err_weaker c.settle.result
+    (λ lack. moved_lacks who old.world c.advance-moved.new.world old.seats.items c.take_out.new.seats.items c.put_in.new.seats.items c.in-Some.task c.advance-moved.result c.requires.order.seated (known_apart old.outsider who c.requires.elsewhere) goes taken.task taken.others taken.once c.put_in.ensures
+    old.failing.items c.settle.new.failing.items old.jobs.items c.failing_of-failing.result waits c.settle.ensures.failing lack c.advance-moved.ensures)
+    c.settle.ensures.lack
