@@ -4,8 +4,12 @@ use schedule_draws::schedule;
 use sim_world::play;
 use std::alloc::Global;
 use std::ops::Range;
+use std::process::Abort;
 use std::test::Fail;
 use world_log::{Verdict, check_log};
+
+/// How many turns each schedule has. A quarter of the seeds then comes to some thirty hits and as many kept puts.
+const TURNS: usize = 400;
 
 /// How many operations ended with each answer, how many calls failed, and how many processes were stopped.
 #[derive(Clone, Copy, Debug)]
@@ -43,9 +47,9 @@ impl Counts {
     }
 }
 
-/// Plays a schedule of so many turns that is drawn from a seed, and judges its log.
-fn judged(alloc: Global, seed: u64, turns: usize, counts: &mut Counts) -> Result<Verdict, Fail> {
-    let turns = schedule(alloc, seed, turns)?;
+/// Plays the schedule that is drawn from a seed, and judges its log.
+fn judged(alloc: Global, seed: u64, counts: &mut Counts) -> Result<Verdict, Fail> {
+    let turns = schedule(alloc, seed, TURNS)?;
     let log = play(alloc, &turns)?.log()?;
     for item in &log {
         counts.add(item);
@@ -54,7 +58,7 @@ fn judged(alloc: Global, seed: u64, turns: usize, counts: &mut Counts) -> Result
 }
 
 /// Plays and judges the schedules of these seeds: each log is good, and each thing was done many times.
-fn are_good(rt: &HostRuntime, seeds: Range<u64>) -> Result<(), Fail> {
+fn are_good(rt: &impl Abort, alloc: Global, seeds: Range<u64>) -> Result<(), Fail> {
     let mut counts = Counts {
         stored: 0,
         kept: 0,
@@ -64,7 +68,7 @@ fn are_good(rt: &HostRuntime, seeds: Range<u64>) -> Result<(), Fail> {
         stops: 0,
     };
     for seed in seeds {
-        let verdict = judged(rt.alloc(), seed, 200, &mut counts)?;
+        let verdict = judged(alloc, seed, &mut counts)?;
         assert_eq!(rt; verdict, Verdict::Good, "seed {seed}");
     }
     assert!(rt; counts.are_many(), "{counts:?}");
@@ -75,20 +79,20 @@ fn are_good(rt: &HostRuntime, seeds: Range<u64>) -> Result<(), Fail> {
 /// log of each of a thousand schedules is good.
 #[test]
 fn the_first_drawn_schedules_are_good(rt: HostRuntime) -> Result<(), Fail> {
-    are_good(&rt, 0..250)
+    are_good(&rt, rt.alloc(), 0..250)
 }
 
 #[test]
 fn the_second_drawn_schedules_are_good(rt: HostRuntime) -> Result<(), Fail> {
-    are_good(&rt, 250..500)
+    are_good(&rt, rt.alloc(), 250..500)
 }
 
 #[test]
 fn the_third_drawn_schedules_are_good(rt: HostRuntime) -> Result<(), Fail> {
-    are_good(&rt, 500..750)
+    are_good(&rt, rt.alloc(), 500..750)
 }
 
 #[test]
 fn the_last_drawn_schedules_are_good(rt: HostRuntime) -> Result<(), Fail> {
-    are_good(&rt, 750..1_000)
+    are_good(&rt, rt.alloc(), 750..1_000)
 }

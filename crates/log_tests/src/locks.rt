@@ -1,5 +1,5 @@
-use crate::played::{ONE, TWO, ends_with, key, log_of, put, put_and_found, steps};
-use cache_types::{Answer, Bytes};
+use crate::played::{ONE, TWO, ends_with, key, log_of, put, steps};
+use cache_types::Answer;
 use file_log::{Call, LogItem, Reply};
 use std::alloc::Global;
 use std::test::Fail;
@@ -7,7 +7,7 @@ use world_log::{Verdict, check_log};
 
 /// How many tries of a lock were answered Held.
 fn held_tries(log: &[LogItem]) -> u64 {
-    let mut tries = 0;
+    let mut tries = 0u64;
     for item in log {
         if let LogItem::Did {
             who: _,
@@ -15,7 +15,7 @@ fn held_tries(log: &[LogItem]) -> u64 {
             reply: Reply::Held,
         } = item
         {
-            tries += 1;
+            tries = tries.saturating_add(1);
         }
     }
     tries
@@ -30,7 +30,10 @@ fn tried(alloc: Global, tries: u64) -> Result<Vec<LogItem>, Fail> {
     steps(&mut turns, ONE, 4)?;
     turns.push(put(alloc, TWO, key(2), b"xy")?)?;
     // The same three, and for each try a pause.
-    steps(&mut turns, TWO, 3 + 2 * tries)?;
+    steps(&mut turns, TWO, 3)?;
+    for _ in 0..tries {
+        steps(&mut turns, TWO, 2)?;
+    }
     steps(&mut turns, ONE, 100)?;
     steps(&mut turns, TWO, 100)?;
     Ok(log_of(alloc, &turns)?)
@@ -51,17 +54,5 @@ fn a_put_tries_a_lock(rt: HostRuntime) -> Result<(), Fail> {
         assert!(rt; ends_with(&log, TWO, &answer), "{tries} tries");
         assert_eq!(rt; check_log(alloc, &log)?, Verdict::Good);
     }
-    Ok(())
-}
-
-/// What one process put another finds.
-#[test]
-fn what_was_put_is_found(rt: HostRuntime) -> Result<(), Fail> {
-    let alloc = rt.alloc();
-    let log = put_and_found(alloc)?;
-    assert!(rt; ends_with(&log, ONE, &Answer::Stored));
-    let hit = Answer::Hit(Bytes::of(alloc, b"abc")?);
-    assert!(rt; ends_with(&log, TWO, &hit));
-    assert_eq!(rt; check_log(alloc, &log)?, Verdict::Good);
     Ok(())
 }

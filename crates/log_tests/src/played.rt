@@ -7,6 +7,7 @@ use file_log::LogItem;
 use sim_world::{Turn, play};
 use std::alloc::Global;
 use std::test::Fail;
+use world_log::{Verdict, check_log};
 
 /// The seat of the first process.
 pub const ONE: Who = Who {
@@ -32,31 +33,41 @@ pub fn key(last: u8) -> Key {
     Key { bytes }
 }
 
-/// A seat is given a put of a blob.
-pub fn put(alloc: Global, who: Who, key: Key, blob: &[u8]) -> Result<Turn, Fail> {
-    let request = Request::Put {
+/// A put of a blob.
+fn put_of(alloc: Global, key: Key, blob: &[u8]) -> Result<Request, Fail> {
+    Ok(Request::Put {
         store: STORE,
         driver: Driver::new(alloc, "d", "g", 0)?,
         key,
         meta: Meta::Unknown,
         blob: Bytes::of(alloc, blob)?,
         limit: 1_000,
-    };
-    Ok(Turn::Start { who, request })
+    })
 }
 
-/// A seat is given a lookup.
-pub fn get(alloc: Global, who: Who, key: Key) -> Result<Turn, Fail> {
+/// A lookup.
+fn get_of(alloc: Global, key: Key) -> Result<Request, Fail> {
     let ro = RoPlan {
         names: TextList::new(alloc),
         list: false,
     };
-    let request = Request::Get {
+    Ok(Request::Get {
         store: STORE,
         driver: Driver::new(alloc, "d", "g", 0)?,
         key,
         ro,
-    };
+    })
+}
+
+/// A seat is given a put of a blob.
+pub fn put(alloc: Global, who: Who, key: Key, blob: &[u8]) -> Result<Turn, Fail> {
+    let request = put_of(alloc, key, blob)?;
+    Ok(Turn::Start { who, request })
+}
+
+/// A seat is given a lookup.
+fn get(alloc: Global, who: Who, key: Key) -> Result<Turn, Fail> {
+    let request = get_of(alloc, key)?;
     Ok(Turn::Start { who, request })
 }
 
@@ -103,7 +114,62 @@ fn is_same(one: &Answer, other: &Answer) -> bool {
         (Answer::Miss, Answer::Miss)
         | (Answer::Stored, Answer::Stored)
         | (Answer::Kept, Answer::Kept)
-        | (Answer::Busy, Answer::Busy) => true,
+        | (Answer::Busy, Answer::Busy)
+        | (Answer::FilesFault, Answer::FilesFault) => true,
         _ => false,
     }
+}
+
+/// Whether the operations of a log end with these answers, in their order.
+fn ends_are(log: &[LogItem], answers: &[Answer]) -> bool {
+    let mut left = answers.iter();
+    for item in log {
+        if let LogItem::End { who: _, answer } = item
+            && !left.next().is_some_and(|wanted| is_same(wanted, answer))
+        {
+            return false;
+        }
+    }
+    left.next().is_none()
+}
+
+/// What one process put another finds.
+#[test]
+fn what_was_put_is_found(rt: HostRuntime) -> Result<(), Fail> {
+    let alloc = rt.alloc();
+    let log = put_and_found(alloc)?;
+    let answers = [Answer::Stored, Answer::Hit(Bytes::of(alloc, b"abc")?)];
+    assert!(rt; ends_are(&log, &answers));
+    assert!(rt; ends_with(&log, ONE, &answers[0]));
+    assert!(rt; ends_with(&log, TWO, &answers[1]));
+    assert_eq!(rt; check_log(alloc, &log)?, Verdict::Good);
+    Ok(())
+}
+
+/// A seat takes a put from its process's queue, and its first call fails. Its process is stopped, and begins
+/// nothing more.
+#[test]
+fn a_job_is_taken_and_fails(rt: HostRuntime) -> Result<(), Fail> {
+    let alloc = rt.alloc();
+    let mut turns = Vec::new(alloc);
+    turns.push(Turn::Offer {
+        process: ONE.process,
+        request: put_of(alloc, key(1), b"abc")?,
+    })?;
+    turns.push(Turn::Take { who: ONE })?;
+    turns.push(Turn::Fail {
+        who: ONE,
+        memory: false,
+    })?;
+    steps(&mut turns, ONE, 20)?;
+    turns.push(Turn::Stop {
+        process: ONE.process,
+    })?;
+    turns.push(get(alloc, ONE, key(1))?)?;
+    let log = log_of(alloc, &turns)?;
+    assert!(rt; ends_are(&log, &[Answer::FilesFault]));
+    // Queued, Taken, Begin, Failed, End and Stop.
+    assert_eq!(rt; log.len(), 6);
+    assert_eq!(rt; check_log(alloc, &log)?, Verdict::Good);
+    Ok(())
 }
