@@ -9,8 +9,6 @@ mod option_list;
 mod parsing;
 mod reading;
 mod row;
-#[cfg(test)]
-mod tests;
 mod word;
 
 pub use command::Command;

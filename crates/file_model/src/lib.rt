@@ -10,8 +10,6 @@ mod queues;
 mod replay;
 mod seen;
 mod step;
-#[cfg(test)]
-mod tests;
 mod world;
 
 pub use legal::first_illegal;

@@ -8,6 +8,9 @@ use std::process::Abort;
 use std::test::Fail;
 use world_log::{Verdict, check_log};
 
+/// How many turns each schedule has. A quarter of the seeds then comes to some thirty hits and as many kept puts.
+const TURNS: usize = 400;
+
 /// How many operations ended with each answer, how many calls failed, and how many processes were stopped.
 #[derive(Clone, Copy, Debug)]
 struct Counts {
@@ -44,9 +47,9 @@ impl Counts {
     }
 }
 
-/// Plays a schedule of so many turns that is drawn from a seed, and judges its log.
-fn judged(alloc: Global, seed: u64, turns: usize, counts: &mut Counts) -> Result<Verdict, Fail> {
-    let turns = schedule(alloc, seed, turns)?;
+/// Plays the schedule that is drawn from a seed, and judges its log.
+fn judged(alloc: Global, seed: u64, counts: &mut Counts) -> Result<Verdict, Fail> {
+    let turns = schedule(alloc, seed, TURNS)?;
     let log = play(alloc, &turns)?.log()?;
     for item in &log {
         counts.add(item);
@@ -65,7 +68,7 @@ fn are_good(rt: &impl Abort, alloc: Global, seeds: Range<u64>) -> Result<(), Fai
         stops: 0,
     };
     for seed in seeds {
-        let verdict = judged(alloc, seed, 600, &mut counts)?;
+        let verdict = judged(alloc, seed, &mut counts)?;
         assert_eq!(rt; verdict, Verdict::Good, "seed {seed}");
     }
     assert!(rt; counts.are_many(), "{counts:?}");

@@ -10,8 +10,6 @@ mod plan;
 mod sink;
 mod source;
 mod stopped;
-#[cfg(test)]
-mod tests;
 
 pub use files::MemFiles;
 pub use lone::LoneFiles;

@@ -11,8 +11,6 @@ mod names_had;
 mod operation;
 mod operations;
 mod tables;
-#[cfg(test)]
-mod tests;
 mod tries;
 
 pub use names_had::NamesHad;

@@ -15,6 +15,3 @@ pub use outcome::status_of;
 pub use printed::{answer_text, key_line, word_of};
 pub use settings_lines::settings_text;
 pub use status::Status;
-
-#[cfg(test)]
-mod tests;

@@ -23,21 +23,20 @@ fn whole_put(alloc: Global) -> Result<MemFiles, Fail> {
     Ok(files)
 }
 
-/// The place of the renaming in a log.
-fn place_of_rename(log: &[LogItem]) -> u64 {
-    let mut place = 0;
-    for item in log {
+/// How many items come before the renaming.
+fn place_of_rename(files: &MemFiles) -> Result<u64, Fail> {
+    let log = files.world().log()?;
+    for (place, item) in log.iter().enumerate() {
         if let LogItem::Did {
             who: _,
             call: Call::Rename { from: _, to: _ },
             reply: _,
         } = item
         {
-            break;
+            return Ok(place as u64);
         }
-        place += 1;
     }
-    place
+    Err("nothing was renamed".into())
 }
 
 /// A process is stopped once its temporary file is written and before the renaming. Its lock is free by the stop,
@@ -46,7 +45,7 @@ fn place_of_rename(log: &[LogItem]) -> u64 {
 fn a_put_goes_on_where_another_was_stopped(rt: HostRuntime) -> Result<(), Fail> {
     let alloc = rt.alloc();
     let files = whole_put(alloc)?;
-    let n = place_of_rename(&files.world().log()?);
+    let n = place_of_rename(&files)?;
     assert!(rt; files.may_follow(n, NEXT)?);
     let mut next = files.stopped_after(n, NEXT)?;
     assert!(rt; put("--id=d", K1_TEXT, b"xy", b"stored\n").take(alloc, &mut next)?);
@@ -58,28 +57,41 @@ fn a_put_goes_on_where_another_was_stopped(rt: HostRuntime) -> Result<(), Fail> 
     Ok(())
 }
 
-/// A seat looks the key up, puts a blob of its own, and looks again. The first lookup gives one of the blobs that
-/// were put, whole, or misses. What it found is kept and found again; where it missed the seat's own is stored
-/// and found.
-fn goes_on(
-    alloc: Global,
-    files: &mut MemFiles,
-    blobs: &[&[u8]],
-    own: &[u8],
-) -> Result<bool, NoMemory>
-    requires { IsIdle (⟦<MemFiles as Files>⟧.seen files.old) }
-    ensures { IsIdle (⟦<MemFiles as Files>⟧.seen files.new) }
+/// Where there is a blob of the key, whether a put of another keeps it.
+fn keeps<F: Files>(alloc: Global, files: &mut F, blob: &[u8], own: &[u8]) -> Result<bool, NoMemory>
+    requires { IsIdle (F.seen files.old) }
 {
-    for blob in blobs {
-        let found = hit("--id=d", K1_TEXT, blob);
-        if found.take(alloc, files)? {
-            let kept = put("--id=d", K1_TEXT, own, b"kept\n").take(alloc, files)?;
-            return Ok(kept && found.take(alloc, files)?);
-        }
-    }
+    let kept = put("--id=d", K1_TEXT, own, b"kept\n").take(alloc, files)?;
+    let found = hit("--id=d", K1_TEXT, blob).take(alloc, files)?;
+    Ok(kept && found)
+}
+
+/// Whether there is no blob of the key, and a put of one stores it.
+fn stores<F: Files>(alloc: Global, files: &mut F, own: &[u8]) -> Result<bool, NoMemory>
+    requires { IsIdle (F.seen files.old) }
+{
     let missed = miss("--id=d", K1_TEXT).take(alloc, files)?;
     let stored = put("--id=d", K1_TEXT, own, b"stored\n").take(alloc, files)?;
-    Ok(missed && stored && hit("--id=d", K1_TEXT, own).take(alloc, files)?)
+    let found = hit("--id=d", K1_TEXT, own).take(alloc, files)?;
+    Ok(missed && stored && found)
+}
+
+/// A seat looks the key up, puts a blob of its own, and looks again. The first lookup gives the blob that another
+/// put, whole, or misses. What it found is kept and found again; where it missed the seat's own is stored and
+/// found.
+fn goes_on<F: Files>(
+    alloc: Global,
+    files: &mut F,
+    blob: &[u8],
+    own: &[u8],
+) -> Result<bool, NoMemory>
+    requires { IsIdle (F.seen files.old) }
+{
+    if hit("--id=d", K1_TEXT, blob).take(alloc, files)? {
+        keeps(alloc, files, blob, own)
+    } else {
+        stores(alloc, files, own)
+    }
 }
 
 /// The put of `abc` is stopped after each of its items, and another process goes on.
@@ -91,7 +103,7 @@ fn a_process_goes_on_after_each_item(rt: HostRuntime) -> Result<(), Fail> {
         assert!(rt; files.may_follow(n, NEXT)?);
         let mut next = files.stopped_after(n, NEXT)?;
         assert!(rt;
-            goes_on(alloc, &mut next, &[b"abc"], b"xy")?,
+            goes_on(alloc, &mut next, b"abc", b"xy")?,
             "stopped after {n}"
         );
     }
@@ -104,15 +116,16 @@ fn a_process_goes_on_after_each_item(rt: HostRuntime) -> Result<(), Fail> {
 fn a_third_goes_on_after_two_stops(rt: HostRuntime) -> Result<(), Fail> {
     let alloc = rt.alloc();
     let files = whole_put(alloc)?;
-    let n = place_of_rename(&files.world().log()?);
+    let n = place_of_rename(&files)?;
     assert!(rt; files.may_follow(n, NEXT)?);
     let mut next = files.stopped_after(n, NEXT)?;
-    assert!(rt; goes_on(alloc, &mut next, &[], b"xy")?);
-    for m in n + 1..=next.world().log_len() {
+    let stopped = next.world().log_len();
+    assert!(rt; stores(alloc, &mut next, b"xy")?);
+    for m in stopped..=next.world().log_len() {
         assert!(rt; next.may_follow(m, LAST)?);
         let mut last = next.stopped_after(m, LAST)?;
         assert!(rt;
-            goes_on(alloc, &mut last, &[b"xy"], b"z")?,
+            goes_on(alloc, &mut last, b"xy", b"z")?,
             "stopped after {m}"
         );
     }

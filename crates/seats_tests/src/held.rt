@@ -6,7 +6,7 @@ use memory_files::MemFiles;
 use report_text::Status;
 use std::alloc::Global;
 use std::test::Fail;
-use test_calls::{K1, K1_TEXT, ME, NEXT, put};
+use test_calls::{K1, K1_TEXT, K2_TEXT, ME, NEXT, put};
 
 /// A world in which another seat holds the lock of the folder of the key.
 fn held_world(alloc: Global) -> Result<World, Fail> {
@@ -30,8 +30,9 @@ fn held_world(alloc: Global) -> Result<World, Fail> {
 
 /// How many tries of a lock were answered Held to a seat.
 fn tries_held(world: &World, me: Who) -> Result<u64, NoMemory> {
-    let mut tries = 0;
-    for item in &world.log()? {
+    let mut tries = 0u64;
+    let log = world.log()?;
+    for item in &log {
         if let LogItem::Did {
             who,
             call: Call::TryLock { slot: _ },
@@ -39,7 +40,7 @@ fn tries_held(world: &World, me: Who) -> Result<u64, NoMemory> {
         } = item
             && *who == me
         {
-            tries += 1;
+            tries = tries.saturating_add(1);
         }
     }
     Ok(tries)
@@ -57,5 +58,6 @@ fn a_put_is_busy_while_the_lock_is_held(rt: HostRuntime) -> Result<(), Fail> {
     assert_eq!(rt; tries_held(world, ME)?, 64);
     assert!(rt; world.file(&Name::Entry { root: 0, key: K1 })?.is_none());
     assert!(rt; world.file(&Name::Temp { root: 0, key: K1 })?.is_none());
+    assert!(rt; put("--id=d", K2_TEXT, b"abc", b"stored\n").take(alloc, &mut files)?);
     Ok(())
 }

@@ -1,5 +1,6 @@
-ghost use Rattle.std.specs.Prelude.{◌≡◌, ℕ, false, get_or, IsTrue, IfOk};
+ghost use Rattle.std.specs.Prelude.{◌≡◌, ◌<◌, ℕ, false, is_some, IsTrue, IfOk};
 ghost use Rattle.file_log.specs.Seat.{IsIdle};
+ghost use Rattle.file_log.specs.State.{disk_of};
 
 use cache_types::Who;
 use file_log::{Call, Reply};
@@ -9,22 +10,23 @@ use memory_files::MemFiles;
 use std::alloc::Global;
 use std::test::Fail;
 
-/// Whether none of these slots is filled.
-fn are_empty(filled: &[bool]) -> bool
-    ensures { IsTrue result → (at : ℕ) → get_or filled.now at false ≡ false }
+/// Whether no slot of a seat is filled.
+fn is_empty(world: &World, me: Who) -> bool
+    ensures { IsTrue result → (at : ℕ) → at < 8 → is_some ((disk_of world.now.past).slots me at) ≡ false }
 {
-    match filled {
-        [] => true,
-        [first, rest @ ..] => !*first && are_empty(rest),
+    for slot in 0..8u8 {
+        if world.is_open(me, slot) {
+            return false;
+        }
     }
+    true
 }
 
 /// A seat goes on with a world in which it has nothing open.
 pub fn idle_on(alloc: Global, me: Who, world: World) -> Result<MemFiles, Fail>
     ensures { IfOk result (λ f. IsIdle (⟦<MemFiles as Files>⟧.seen f)) }
 {
-    let seen = world.seen(me);
-    if seen.inside || !are_empty(&seen.filled) || world.is_halted(me.process) {
+    if world.seen(me).inside || !is_empty(&world, me) || world.is_halted(me.process) {
         return Err("the seat has something open, or was stopped".into());
     }
     Ok(MemFiles::on(alloc, me, world)?)

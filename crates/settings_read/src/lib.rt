@@ -8,8 +8,6 @@ mod names;
 mod overrides;
 mod places;
 mod size;
-#[cfg(test)]
-mod tests;
 mod variables;
 
 pub use cache_settings::{CacheSettings, SettingsRefusal, settings, settings_over};

@@ -4,6 +4,3 @@
 mod folder;
 
 pub use folder::folder_gives;
-
-#[cfg(test)]
-mod tests;

@@ -14,8 +14,6 @@ mod making;
 mod passing;
 mod puts;
 mod same;
-#[cfg(test)]
-mod tests;
 mod verdict;
 
 pub use check::check_log;

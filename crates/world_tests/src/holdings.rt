@@ -1,7 +1,7 @@
-use super::*;
 use cache_types::{Bytes, Driver, Key, Name};
 use file_model::World;
 use std::test::Fail;
+use world_holds::folder_gives;
 
 const KEY: Key = Key { bytes: [9; 20] };
 

@@ -1,7 +1,7 @@
-use crate::{NamesHad, Operations};
 use cache_types::{Answer, Bytes, Driver, Key, Layout, Meta, Name, Request, Store, Who};
 use file_log::{Call, LogItem, Reply};
 use item_frame::write_item;
+use operation_ledger::{NamesHad, Operations};
 use std::alloc::Global;
 use std::test::Fail;
 use world_tables::Tables;

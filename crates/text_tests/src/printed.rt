@@ -1,5 +1,5 @@
-use super::*;
 use cache_types::{Answer, Key, KeyList, Layout, NoMemory, Request, Row, RowList, Text, TextList};
+use report_text::{Status, answer_text, fault_text, key_line, settings_text, status_of, word_of};
 use settings_read::{CacheSettings, settings};
 use std::alloc::Global;
 use std::test::Fail;

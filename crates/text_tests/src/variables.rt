@@ -1,5 +1,8 @@
-use super::*;
 use cache_types::{Layout, Text, TextList};
+use settings_read::{
+    CacheSettings, Overrides, SettingsRefusal, VARIABLES, names_of_list, names_of_variable,
+    settings, settings_over, size_of_text,
+};
 use std::alloc::Global;
 use std::process::Abort;
 use std::test::Fail;

@@ -1,8 +1,8 @@
-use super::*;
 use cache_types::{Answer, Bytes, Key, Name, NoMemory, Request, Text, Who};
 use file_log::{Call, Note, Reply};
 use file_model::World;
 use files_api::{Files, Sink, Source, Took};
+use memory_files::{Fault, MemFiles, MemSink, MemSource};
 use std::alloc::Global;
 use std::test::Fail;
 

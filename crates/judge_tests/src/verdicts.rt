@@ -1,7 +1,7 @@
-use super::*;
 use cache_types::{Key, Name, Who};
 use file_log::{Call, LogItem, Reply};
 use std::test::Fail;
+use world_log::{Verdict, check_log};
 
 /// A seat of one process, and a seat of another.
 const ONE: Who = Who {
@@ -59,5 +59,22 @@ fn no_seat_makes_an_entry(rt: HostRuntime) -> Result<(), Fail> {
     let mut log = Vec::new(rt.alloc());
     log.push(opens(ONE, entry))?;
     assert_eq!(rt; check_log(rt.alloc(), &log)?, Verdict::BrokenAt(0));
+    Ok(())
+}
+
+/// A seat of a process that was stopped does nothing more, not even a pause.
+#[test]
+fn a_stopped_process_is_still(rt: HostRuntime) -> Result<(), Fail> {
+    let mut log = Vec::new(rt.alloc());
+    log.push(opens(ONE, Name::Db { root: 0 }))?;
+    log.push(opens(TWO, Name::Db { root: 0 }))?;
+    log.push(LogItem::Stop { process: 2 })?;
+    log.push(locks(ONE))?;
+    log.push(LogItem::Did {
+        who: TWO,
+        call: Call::Pause,
+        reply: Reply::Done,
+    })?;
+    assert_eq!(rt; check_log(rt.alloc(), &log)?, Verdict::IllegalAt(4));
     Ok(())
 }

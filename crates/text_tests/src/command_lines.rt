@@ -1,5 +1,5 @@
-use super::*;
 use cache_types::{Layout, NoMemory};
+use cmd_words::{Command, Word, WordsRefusal, number_of_text, read_words};
 use std::alloc::Global;
 use std::test::Fail;
 

@@ -1,9 +1,9 @@
 ghost use Rattle.std.specs.Prelude.{IfOk};
 ghost use Rattle.file_log.specs.Legal.{IsPut};
 
-use super::*;
 use cache_types::{Bytes, Driver, Key, Layout, Meta, Name, Request, Store, Who};
 use file_log::{Call, LogItem, Reply, Ticket, request_known};
+use file_model::{World, disk_of, first_illegal};
 use std::alloc::Global;
 use std::test::Fail;
 
