@@ -15,8 +15,9 @@ use std::marker::Model;
 /// told, from an empty disk on.
 ///
 /// Before each own item of the log, so also between two bytes of a write, the schedule's turns are played
-/// up to and including its next `Own`, or to its end. A turn of the seat's own process does nothing, and so
-/// does one for which there is no memory. No own call fails but for want of memory.
+/// up to and including its next `Own`, or to its end. Outside of an operation a write goes on without them
+/// once it has begun, since want of memory isn't told there. A turn of the seat's own process does nothing,
+/// and so does one for which there is no memory. No own call fails but for want of memory.
 ///
 /// Whatever the seat does, no other seat is the first to break a rule among seats
 /// ([`others_keep`](SimFiles::others_keep)).

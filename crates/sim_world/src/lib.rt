@@ -13,8 +13,6 @@ mod playing;
 mod seats;
 mod stage;
 mod step;
-#[cfg(test)]
-mod tests;
 mod turn;
 
 pub use playing::play;
