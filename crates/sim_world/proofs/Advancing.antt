@@ -1,5 +1,5 @@
 -- What a step of a busy seat keeps, and that it is the schedule's.
-use Rattle.std.proofs.Common.{◌≡◌, ◌⊎◌, inl, inr, ℕ, cond, ◌&&◌, Bool, true, false, List, [], ◌∷◌, ◌++◌, fold, Option, Some, None, refl, sym, ap, subst, ◌∙◌}
+use Rattle.std.proofs.Common.{◌≡◌, inl, inr, ℕ, cond, ◌&&◌, Bool, true, false, List, [], ◌∷◌, ◌++◌, Option, Some, None, refl, sym, ap, subst, ◌∙◌}
 use Rattle.cache_types.specs.declared.answer.Answer.{Answer}
 use Rattle.cache_types.specs.declared.request.Request.{Request}
 use Rattle.cache_types.specs.declared.seat.Who.{Who}
@@ -7,10 +7,8 @@ use Rattle.cache_types.specs.Seats.{same_seat}
 use Rattle.file_log.specs.declared.call.Call.{Call}
 use Rattle.file_log.specs.declared.item.LogItem.{LogItem}
 use Rattle.file_log.specs.declared.item.LogItem.TheVariants as items
-use Rattle.file_log.specs.State.{State, after, state_of}
-use Rattle.file_log.specs.Log.{is_own}
+use Rattle.file_log.specs.State.{State, state_of}
 use Rattle.file_log.proofs.All.{seat_self}
-use Rattle.file_model.specs.declared.step.Progress.{Progress}
 use Rattle.file_model.specs.Held.{Held}
 use Rattle.file_model.specs.Held as held
 use Rattle.file_model.specs.Steps.{step_items, StepFits, IsFated, is_inside}
@@ -19,7 +17,7 @@ use Rattle.files_api.specs.declared.machine.Step.TheVariants.{Ask, Done}
 use Rattle.files_api.specs.Drive.{Allows, IsWithin}
 use Rattle.folder_rules.specs.Places.{past}
 use Rattle.op_machine.specs.declared.op.Op.{Op}
-use Rattle.op_machine.specs.Machine.{asks, slots, hurt, allowed}
+use Rattle.op_machine.specs.Machine.{slots, hurt, allowed}
 use Rattle.op_machine.specs.Places.{Where}
 use Rattle.op_machine.proofs.Standing as standing
 use Rattle.op_machine.proofs.Standing.{Stands}
@@ -34,13 +32,13 @@ use Rattle.sim_world.specs.declared.operation.Operation.{Operation}
 use Rattle.sim_world.specs.declared.seats.Seat.{Seat}
 use Rattle.sim_world.specs.declared.seats.Task.{Task}
 use Rattle.sim_world.specs.declared.seats.Task.TheVariants as tasks
-use Rattle.sim_world.specs.Played.{MayCome, stepped, Steps}
-use Rattle.sim_world.specs.Scene.{Scene, Activity, Idle, Asked, Inside, Waiting, told, with_seat, with_failing}
+use Rattle.sim_world.specs.Played.{Steps}
+use Rattle.sim_world.specs.Scene.{Scene, Activity, Idle, Asked, Inside, told, with_seat, with_failing}
 use Rattle.sim_world.specs.Stages.{where_in, where_of, seats_at, activity_of, scene_from, AreSeated, AreJobs}
-use Rattle.sim_world.specs.Steps.{fate_of, brought_by, IsBrought, is_failure, Asks, Ends, Goes, Begins, Waits, Advances}
-use Rattle.sim_world.specs.Tables.{task_of, Once, failing_of, jobs_of}
+use Rattle.sim_world.specs.Steps.{fate_of, brought_by, IsBrought, is_failure, Asks, Ends, Goes, Begins, Advances}
+use Rattle.sim_world.specs.Tables.{task_of, Once, failing_of}
 use Rattle.sim_world.proofs.Ordered.{state_is, Changes}
-use Rattle.sim_world.proofs.Stepping.{Leaves, step_leaves, leaves_told, jobs_stay, begin_seated, wait_seated, end_seated, ask_seated, told_inside}
+use Rattle.sim_world.proofs.Stepping.{step_leaves, leaves_told, jobs_stay, begin_seated, wait_seated, end_seated, ask_seated, told_inside}
 use Rattle.sim_world.proofs.Scenes.{same_scene, activity_then, Tells, Fails, call_told}
 
 module _ (who : Who) (w w' : Held) (seats seats' : List Seat) (moved : Moved) (a : AreSeated w seats) (goes : (state_of w.past).halted who.process ≡ false) (changes : Changes who moved.task seats seats') (once : Once seats') where
@@ -129,10 +127,6 @@ module _ (who : Who) (w w' : Held) (seats seats' : List Seat) (moved : Moved) (a
           same_scene new (with_seat (told old item) who Idle) (log_then item x.told_is) (clock_then item x.told_is)
               (seats_then None (ap (λ (m : Moved). m.task) x.moved_is)) (none_used (ap (λ (m : Moved). m.brought) x.moved_is)) (λ p. refl),
         )
-
-    -- what brought an item, and what a failure
-    brought_item : (call : Call) (progress : Progress) → moved.brought ≡ brought_by (fate_of call (failing_of failing who)) progress → IsBrought moved.brought → IsBrought (brought_by (fate_of call (failing_of failing who)) progress)
-    brought_item call progress e b = subst IsBrought e b
 
     tells_plays : (operation : Operation) (news : List LogItem) → w' ≡ held.told w news → moved.task ≡ Some (tasks.Begun operation) → old.seats who ≡ Inside → moved.brought ≡ brings.Item → Tells who old (failing_of failing who) news → Steps old who Inside new
     tells_plays operation news e task at item t =

@@ -1,13 +1,8 @@
 -- What is kept of a world and its seats when items come.
-use Rattle.std.proofs.Common.{◌≡◌, ◌⊎◌, inl, inr, ℕ, ◌+◌, cond, nat_eq, ◌&&◌, Bool, true, false, List, [], ◌∷◌, ◌++◌, fold, length, Option, Some, None, refl, sym, ap, subst, ◌∙◌, arith}
-use Rattle.std.proofs.lemmas.Bool.{eqb-true, eq-eqb}
-use Rattle.std.proofs.lemmas.List.Sums.{fold-append}
-use Rattle.cache_types.specs.declared.request.Request.{Request}
+use Rattle.std.proofs.Common.{◌≡◌, ℕ, cond, nat_eq, ◌&&◌, Bool, true, false, List, [], ◌∷◌, ◌++◌, Option, Some, None, refl, sym, ap, subst, ◌∙◌, arith}
 use Rattle.cache_types.specs.declared.seat.Who.{Who}
 use Rattle.cache_types.specs.Seats.{same_seat}
 use Rattle.file_log.specs.declared.item.LogItem.{LogItem}
-use Rattle.file_log.specs.declared.item.LogItem.TheVariants as items
-use Rattle.file_log.specs.declared.reply.Reply.{Reply}
 use Rattle.file_log.specs.Disk.{Start}
 use Rattle.file_log.specs.Legal.{Legal, IsLegal}
 use Rattle.file_log.specs.Log.{History, seat_of}
@@ -15,17 +10,14 @@ use Rattle.file_log.specs.State.{State, first, after, state_of}
 use Rattle.file_log.proofs.All.{seat_self}
 use Rattle.file_log.proofs.Logs.{All-append}
 use Rattle.file_model.specs.Held.{Held, told}
-use Rattle.file_model.specs.Steps.{is_inside}
 use Rattle.files_api.specs.declared.machine.Step.{Step}
 use Rattle.files_api.specs.declared.machine.Step.TheVariants.{Ask, Done}
-use Rattle.folder_rules.specs.Changes.{with_item}
 use Rattle.folder_rules.specs.Places.{past}
-use Rattle.folder_rules.specs.Rules.{KeepsRules}
 use Rattle.op_machine.specs.declared.op.Op.{Op}
 use Rattle.op_machine.specs.Machine.{asks, asked}
 use Rattle.op_machine.specs.Places.{Where}
 use Rattle.op_machine.proofs.Standing.{Stands, asks_call, gives_answer, may_call, is_place, ending_inside}
-use Rattle.op_machine.proofs.Orderly.{IsOrderly, OnlyMoves, unseated_comes, orderly_at_first}
+use Rattle.op_machine.proofs.Orderly.{IsOrderly, OnlyMoves, unseated_comes}
 use Rattle.sim_world.specs.declared.seats.Seat.{Seat}
 use Rattle.sim_world.specs.declared.seats.Task.{Task}
 use Rattle.sim_world.specs.declared.seats.Task.TheVariants as tasks
@@ -84,10 +76,6 @@ put_back who (Some task) old out taken = λ w. put_by (same_seat w who) task (ta
 pub once_back : (who : Who) (task : Option Task) (old out : List Seat) → ((w : Who) → task_of out w ≡ cond (same_seat w who) None (task_of old w)) → Once out → Once (seats_with who task out)
 once_back who None old out taken once = once
 once_back who (Some task) old out taken once = (changed_here who None old out taken, once)
-
--- a table in which the seat had nothing
-new_by : (b : Bool) (task rest : Option Task) → cond b task rest ≡ cond b task rest
-new_by b task rest = refl
 
 pub put_new : (who : Who) (task : Task) (old : List Seat) → Changes who (Some task) old (seats_with who (Some task) old)
 put_new who task old = λ w. refl

@@ -1,5 +1,5 @@
 -- Scenes that are the same, and the scene after a step.
-use Rattle.std.proofs.Common.{◌≡◌, ◌⊎◌, inl, inr, ℕ, ◌+◌, cond, nat_eq, ◌&&◌, Bool, true, false, List, [], ◌∷◌, ◌++◌, length, get_or, Option, Some, None, refl, sym, ap, subst, ◌∙◌}
+use Rattle.std.proofs.Common.{◌≡◌, ◌⊎◌, inl, inr, ℕ, ◌+◌, cond, nat_eq, Bool, true, false, List, [], ◌∷◌, length, get_or, Option, Some, None, refl, ap, ◌∙◌}
 use mathlib.Core.Path.{fun_ext}
 use Rattle.cache_types.specs.declared.seat.Who.{Who}
 use Rattle.cache_types.specs.Seats.{same_seat}
@@ -17,21 +17,17 @@ use Rattle.file_model.specs.declared.step.Fate.{Fate}
 use Rattle.file_model.specs.declared.step.Fate.TheVariants as fates
 use Rattle.file_model.specs.declared.step.Progress.{Progress}
 use Rattle.file_model.specs.declared.step.Progress.TheVariants as progresses
-use Rattle.file_model.specs.Held.{Held}
-use Rattle.file_model.specs.Held as held
 use Rattle.file_model.specs.Steps.{step_items, StepFits, StepTellsClock, IsFated, HasFailed}
 use Rattle.files_api.specs.Drive.{IsWithin}
 use Rattle.world_tables.specs.Calls.{TellsClock}
-use Rattle.sim_world.specs.declared.failing.Failing.{Failing}
-use Rattle.sim_world.specs.declared.jobs.Job.{Job}
 use Rattle.sim_world.specs.declared.seats.Seat.{Seat}
 use Rattle.sim_world.specs.declared.seats.Task.{Task}
-use Rattle.sim_world.specs.Played.{NeverFails, MayCome, stepped, Steps}
-use Rattle.sim_world.specs.Scene.{Scene, Activity, Idle, Asked, Inside, Waiting, told, with_seat, with_failing}
-use Rattle.sim_world.specs.Stages.{activity_of, scene_from}
+use Rattle.sim_world.specs.Played.{NeverFails, MayCome, stepped}
+use Rattle.sim_world.specs.Scene.{Scene, Activity, Waiting, told}
+use Rattle.sim_world.specs.Stages.{activity_of}
 use Rattle.sim_world.specs.declared.operation.Brought.TheVariants as brings
 use Rattle.sim_world.specs.Steps.{fate_for, fate_of, brought_made, brought_reply, brought_by, IsBrought}
-use Rattle.sim_world.specs.Tables.{task_of, failing_of, jobs_of}
+use Rattle.sim_world.specs.Tables.{task_of}
 use Rattle.sim_world.proofs.Ordered.{Changes}
 
 -- two scenes are one where their parts are

@@ -2,7 +2,7 @@
 use Rattle.std.specs.List.{Contains}
 use Rattle.file_log.specs.declared.ticket.Ticket.{Ticket}
 use Rattle.world_tables.proofs.Finds.{same_seat-true}
-use Rattle.std.proofs.Common.{◌<◌, ◌≡◌, ◌⊎◌, inl, inr, ℕ, ◌+◌, cond, nat_eq, ◌&&◌, Bool, true, false, List, [], ◌∷◌, ◌++◌, fold, length, map, get_or, Option, Some, None, refl, sym, ap, subst, ◌∙◌}
+use Rattle.std.proofs.Common.{◌<◌, ◌≡◌, ℕ, ◌+◌, cond, nat_eq, Bool, true, false, List, [], ◌∷◌, ◌++◌, fold, length, get_or, Option, Some, None, refl, sym, ap, subst, ◌∙◌}
 use Rattle.std.proofs.lemmas.List.Sums.{fold-append}
 use Rattle.cache_types.specs.declared.answer.Answer.{Answer}
 use Rattle.cache_types.specs.declared.request.Request.{Request}
@@ -13,7 +13,6 @@ use Rattle.file_log.specs.declared.call.Call.TheVariants as calls
 use Rattle.file_log.specs.declared.item.LogItem.{LogItem}
 use Rattle.file_log.specs.declared.item.LogItem.TheVariants as items
 use Rattle.file_log.specs.declared.note.Note.TheVariants as notes
-use Rattle.file_log.specs.declared.reply.Reply.{Reply}
 use Rattle.file_log.specs.declared.reply.Reply.TheVariants as replies
 use Rattle.file_log.specs.Legal.{Legal, IsLegal}
 use Rattle.file_log.specs.Log.{History}
@@ -22,10 +21,8 @@ use Rattle.file_log.proofs.All.{seat_self}
 use Rattle.file_model.specs.declared.step.Progress.{Progress}
 use Rattle.file_model.specs.declared.step.Progress.TheVariants as progresses
 use Rattle.file_model.specs.Held.{Held, told}
-use Rattle.file_model.specs.Steps.{step_items, byte_item, done_items, is_inside, Stepped, StepFits}
+use Rattle.file_model.specs.Steps.{step_items, byte_item, done_items, is_inside, Stepped}
 use Rattle.file_log.specs.Exchange.{items_refused}
-use Rattle.files_api.specs.declared.machine.Step.{Step}
-use Rattle.files_api.specs.declared.machine.Step.TheVariants.{Ask, Done}
 use Rattle.folder_rules.specs.Changes.{with_item}
 use Rattle.folder_rules.specs.Places.{past}
 use Rattle.op_machine.specs.declared.op.Op.{Op}
@@ -41,9 +38,9 @@ use Rattle.sim_world.specs.declared.seats.Seat.{Seat}
 use Rattle.sim_world.specs.declared.seats.Task.{Task}
 use Rattle.sim_world.specs.declared.seats.Task.TheVariants as tasks
 use Rattle.sim_world.specs.Stages.{where_in, where_of, seats_at, IsFit, AreSeated, AreJobs}
-use Rattle.sim_world.specs.Steps.{GoesTo, Asks, Ends, Goes, Begins, Waits, Advances, wanting}
+use Rattle.sim_world.specs.Steps.{GoesTo, Asks, Ends, Begins, Waits}
 use Rattle.sim_world.specs.Tables.{task_of, Once}
-use Rattle.sim_world.proofs.Ordered.{past_is, state_is, legal_then, Changes, changed_here, changed_elsewhere, others_stay, fits_then, stands_at, wants_next, stopped_orderly, seat_flip}
+use Rattle.sim_world.proofs.Ordered.{state_is, legal_then, Changes, changed_here, others_stay, fits_then, stands_at, wants_next, stopped_orderly, seat_flip}
 
 -- ---- processes and queues
 

@@ -1,25 +1,24 @@
 -- What each turn but a step keeps, and that it is the schedule's.
-use Rattle.std.proofs.Common.{◌≡◌, ◌⊎◌, ◌↔◌, ◌<◌, inl, inr, ℕ, ◌+◌, cond, nat_eq, not, ◌&&◌, ◌||◌, Bool, true, false, IsTrue, List, [], ◌∷◌, ◌++◌, fold, length, map, drop, Option, Some, None, Result, Ok, Err, OnOk, OnErr, refl, sym, ap, subst, ◌∙◌, arith}
-use Rattle.std.specs.Prelude.{is_none, option_map}
+use Rattle.std.proofs.Common.{◌≡◌, ◌↔◌, ◌<◌, inl, inr, ℕ, ◌+◌, cond, nat_eq, not, ◌||◌, Bool, true, false, IsTrue, List, [], ◌∷◌, ◌++◌, length, map, drop, Option, Some, None, Result, Ok, Err, OnOk, OnErr, refl, sym, ap, subst, ◌∙◌, arith}
+use Rattle.std.specs.Prelude.{option_map}
 use Rattle.std.specs.List.{Contains, AllByRecursion}
-use Rattle.std.proofs.lemmas.Bool.{false≢true, eqb-true, eq-eqb}
+use Rattle.std.proofs.lemmas.Bool.{false≢true, eqb-true}
 use Rattle.std.proofs.lemmas.List.Sums.{fold-append}
-use Rattle.cache_types.specs.declared.name.Name.TheVariants.{Ro, RoIdx}
 use Rattle.cache_types.specs.declared.request.Request.{Request}
 use Rattle.cache_types.specs.declared.seat.Who.{Who}
 use Rattle.cache_types.specs.Seats.{same_seat}
 use Rattle.file_log.specs.declared.item.LogItem.{LogItem}
 use Rattle.file_log.specs.declared.item.LogItem.TheVariants as items
 use Rattle.file_log.specs.declared.ticket.Ticket.{Ticket}
-use Rattle.file_log.specs.Legal.{Legal, IsLegal, IsPut, IsFront, MayQueue}
+use Rattle.file_log.specs.Legal.{IsLegal, IsPut, IsFront, MayQueue}
 use Rattle.file_log.specs.Fits.{RequestFits}
-use Rattle.file_log.specs.Log.{History, seat_of}
+use Rattle.file_log.specs.Log.{seat_of}
 use Rattle.file_log.specs.State.{State, first, after, state_of}
 use Rattle.file_model.specs.Held.{Held}
 use Rattle.file_model.specs.Held as held
 use Rattle.folder_rules.specs.Places.{past}
 use Rattle.op_machine.specs.Requests.{IsBuilt}
-use Rattle.op_machine.proofs.Orderly.{IsOrderly, unseated_comes, taken_comes, orderly_at_first}
+use Rattle.op_machine.proofs.Orderly.{taken_comes, orderly_at_first}
 use Rattle.world_tables.proofs.Finds.{same_seat-true}
 use Rattle.world_tables.proofs.Listings.{first_or_later}
 use Rattle.sim_world.specs.declared.failing.Failing.{Failing}
@@ -28,26 +27,19 @@ use Rattle.sim_world.specs.declared.jobs.Offered.{Offered}
 use Rattle.sim_world.specs.declared.seats.Seat.{Seat}
 use Rattle.sim_world.specs.declared.seats.Task.{Task}
 use Rattle.sim_world.specs.declared.seats.Task.TheVariants as tasks
-use Rattle.sim_world.specs.Played.{Turns, GoesOn, IsFree, IsAbsent, MayOffer, offered, taken}
-use Rattle.sim_world.specs.Scene.{Scene, Activity, Idle, Asked, Inside, Waiting, opening, state_at, told, with_seat, with_queue, without_seats, next_ticket}
+use Rattle.sim_world.specs.Played.{Turns, IsFree, MayOffer, offered, taken}
+use Rattle.sim_world.specs.Scene.{Scene, Idle, Asked, Waiting, told, with_seat, with_queue, next_ticket}
 use Rattle.sim_world.specs.Stages.{activity_of, scene_from, where_of, seats_at, IsFit, AreSeated, AreJobs, IsJob}
 use Rattle.sim_world.specs.Tables.{task_of, Once, seats_with, jobs_of, waiting_of, front, offered_to}
 use Rattle.sim_world.proofs.JobTable.{one_more}
-use Rattle.sim_world.proofs.Ordered.{past_is, state_is, legal_then, Changes, put_new, changed_here, others_stay, fits_then, unseated_seated, stopped_orderly}
+use Rattle.sim_world.proofs.Ordered.{state_is, legal_then, put_new, fits_then, unseated_seated, stopped_orderly}
 use Rattle.sim_world.proofs.Scenes.{same_scene, activity_then}
 use Rattle.sim_world.proofs.Stepping.{state_told}
 
 -- ---- turns that apply, and others
 
-pub turn_passed : {P Q : Type 0} (old : Scene) → (P → ⊥) → Turns P old old Q
-turn_passed old never = record { applied = λ p. absurd (never p); passed = λ none. refl }
-
 pub turn_applied : {P Q : Type 0} (old new : Scene) → P → Q → Turns P old new Q
 turn_applied old new p does = record { applied = λ again. does; passed = λ none. absurd (none p) }
-
--- a test that failed
-pub fails_so : {P : Type 0} (b : Bool) → (IsTrue b ↔ P) → b ≡ false → P → ⊥
-fails_so b decides e p = false≢true (sym e ∙ decides.1 p)
 
 -- ---- before any turn
 
@@ -57,17 +49,11 @@ first_seated w e = subst (λ (v : Held). AreSeated v []) (sym e) (record { start
 pub first_jobs : (w : Held) → w ≡ record { past = record { start = []; log = [] }; clock = 0 } → AreJobs (state_of w.past) [] []
 first_jobs w e = subst (λ (v : Held). AreJobs (state_of v.past) [] []) (sym e) (record { tickets = λ p. refl; fit = λ p. tt; count = λ p. refl; lower = λ p ticket there. absurd (omega (arith, there.1)) })
 
-pub first_scene : (w : Held) → w ≡ record { past = record { start = []; log = [] }; clock = 0 } → scene_from w [] [] [] ≡ opening
-first_scene w e = ap (λ (v : Held). scene_from v [] [] []) e
-
 -- ---- tests
 
 not_decides : (h x : Bool) → h ≡ x → IsTrue (not h) ↔ (x ≡ false)
 not_decides true x e = (λ clash. absurd cc, λ never. absurd (false≢true (sym never ∙ sym e)))
 not_decides false x e = (λ yes. sym e, λ never. refl)
-
-pub goes_on_decides : (w : Held) (p : ℕ) (h : Bool) → h ≡ (state_of w.past).halted p → IsTrue (not h) ↔ ((state_of w.past).halted p ≡ false)
-goes_on_decides w p h e = not_decides h _ e
 
 pub goes_on_scene : (w : Held) (p : ℕ) (h : Bool) → w.past.start ≡ [] → h ≡ (state_of w.past).halted p → IsTrue (not h) ↔ ((state_of (past w.past.log)).halted p ≡ false)
 goes_on_scene w p h start e = not_decides h _ (e ∙ ap (λ (s : State). s.halted p) (state_is w start))
@@ -76,14 +62,6 @@ idle_is : (task : Option Task) → activity_of task ≡ Idle → task ≡ None
 idle_is None e = refl
 idle_is (Some (tasks.Asked request)) e = absurd cc
 idle_is (Some (tasks.Begun operation)) e = absurd cc
-
-idle_decides : (task : Option Task) → IsTrue (is_none task) ↔ (activity_of task ≡ Idle)
-idle_decides None = (λ yes. refl, λ e. refl)
-idle_decides (Some (tasks.Asked request)) = (λ clash. absurd cc, λ e. absurd cc)
-idle_decides (Some (tasks.Begun operation)) = (λ clash. absurd cc, λ e. absurd cc)
-
-pub is_idle_scene : (seats : List Seat) (who : Who) (i : Bool) → i ≡ is_none (task_of seats who) → IsTrue i ↔ (activity_of (task_of seats who) ≡ Idle)
-is_idle_scene seats who i e = subst (λ (b : Bool). IsTrue b ↔ (activity_of (task_of seats who) ≡ Idle)) (sym e) (idle_decides (task_of seats who))
 
 pub free_none : (seats : List Seat) (who : Who) → activity_of (task_of seats who) ≡ Idle → task_of seats who ≡ None
 free_none seats who e = idle_is (task_of seats who) e
@@ -106,11 +84,6 @@ asked_seated w seats who request a none built = record {
   fits = fits_then who (Some (tasks.Asked request)) seats (seats_with who (Some (tasks.Asked request)) seats) (put_new who (tasks.Asked request) seats) built a.fits;
 }
 
-pub asked_scene : (w : Held) (seats : List Seat) (failing : List Failing) (jobs : List Job) (who : Who) (request : Request) → scene_from w (seats_with who (Some (tasks.Asked request)) seats) failing jobs ≡ with_seat (scene_from w seats failing jobs) who (Asked request)
-asked_scene w seats failing jobs who request =
-    same_scene (scene_from w (seats_with who (Some (tasks.Asked request)) seats) failing jobs) (with_seat (scene_from w seats failing jobs) who (Asked request)) refl refl
-    (activity_then who (Some (tasks.Asked request)) seats (seats_with who (Some (tasks.Asked request)) seats) (put_new who (tasks.Asked request) seats)) (λ v. refl) (λ p. refl)
-
 -- ---- queues that stay
 
 pub jobs_same : (s s' : State) (jobs : List Job) (offered : List Offered) → ((p : ℕ) → s'.waiting p ≡ s.waiting p) → ((p : ℕ) → s'.used p ≡ s.used p) → AreJobs s jobs offered → AreJobs s' jobs offered
@@ -126,11 +99,6 @@ pub jobs_told : (w : Held) (x : LogItem) (jobs : List Job) (offered : List Offer
     → AreJobs (state_of w.past) jobs offered → AreJobs (state_of (held.told w (x ∷ [])).past) jobs offered
 jobs_told w x jobs offered waiting used j =
     subst (λ (s : State). AreJobs s jobs offered) (sym (state_told w (x ∷ []))) (jobs_same (state_of w.past) (after (state_of w.past) x) jobs offered waiting used j)
-
--- ---- an item of no seat
-
-pub told_scene : (w : Held) (seats : List Seat) (failing : List Failing) (jobs : List Job) (x : LogItem) → scene_from (held.told w (x ∷ [])) seats failing jobs ≡ told (scene_from w seats failing jobs) x
-told_scene w seats failing jobs x = refl
 
 -- ---- a process that is stopped
 
@@ -153,10 +121,6 @@ cleared_fit : (b : Bool) (task : Option Task) → IsFit task → IsFit (cond b N
 cleared_fit true task fits = tt
 cleared_fit false task fits = fits
 
-cleared_activity : (b : Bool) (task : Option Task) → activity_of (cond b None task) ≡ cond b Idle (activity_of task)
-cleared_activity true task = refl
-cleared_activity false task = refl
-
 pub stopped_seated : (w : Held) (p : ℕ) (seats seats' : List Seat) → AreSeated w seats → Clears p seats seats' → Once seats' → AreSeated (held.told w (items.Stop p ∷ [])) seats'
 stopped_seated w p seats seats' a clears once =
     let stopped = unseated_seated w seats (items.Stop p) a refl (tt, tt) in
@@ -168,12 +132,6 @@ stopped_seated w p seats seats' a clears once =
       once = once;
       fits = λ v. subst IsFit (sym (clears v)) (cleared_fit (nat_eq v.process p) (task_of seats v) (a.fits v));
     }
-
-pub stopped_scene : (w : Held) (p : ℕ) (seats seats' : List Seat) (failing : List Failing) (jobs : List Job) → Clears p seats seats'
-    → scene_from (held.told w (items.Stop p ∷ [])) seats' failing jobs ≡ without_seats (told (scene_from w seats failing jobs) (items.Stop p)) p
-stopped_scene w p seats seats' failing jobs clears =
-    same_scene (scene_from (held.told w (items.Stop p ∷ [])) seats' failing jobs) (without_seats (told (scene_from w seats failing jobs) (items.Stop p)) p) refl refl
-    (λ v. ap activity_of (clears v) ∙ cleared_activity (nat_eq v.process p) (task_of seats v)) (λ v. refl) (λ q. refl)
 
 -- ---- the clock
 
@@ -241,9 +199,6 @@ offered_jobs w p request ticket jobs offered' offered'' count j number more buil
       count = λ q. counted q ∙ count_by (nat_eq p q) (nat_eq q p) count (offered_to offered' q) ticket (s.used q) (nat_flip p q) (λ e. omega (arith, more, number_at q e)) (j.count q);
       lower = λ q. lower_by (nat_eq p q) ticket (s.used q) (λ e. number_at q (nat_flip q p ∙ e)) (j.lower q);
     })
-
-queue_by : (k : Bool) (jobs : List Waiting) (x y : Waiting) → x ≡ y → cond k (jobs ++ x ∷ []) jobs ≡ cond k (jobs ++ y ∷ []) jobs
-queue_by k jobs x y e = ap (λ (z : Waiting). cond k (jobs ++ z ∷ []) jobs) e
 
 other_queue : (k : Bool) (q p : ℕ) (jobs : List Job) (x : Waiting) → nat_eq q p ≡ k → cond k (jobs_of q jobs ++ x ∷ []) (jobs_of q jobs) ≡ cond k (jobs_of p jobs ++ x ∷ []) (jobs_of q jobs)
 other_queue true q p jobs x e = ap (λ (n : ℕ). jobs_of n jobs ++ x ∷ []) (eqb-true q p e)
@@ -354,20 +309,6 @@ unseated_jobs w w' x jobs offered' e leaves j =
 
 pub unseated_now : (w w' : Held) (seats : List Seat) (x : LogItem) → AreSeated w seats → w' ≡ held.told w (x ∷ []) → seat_of x ≡ None → IsLegal (state_of w.past) x → AreSeated w' seats
 unseated_now w w' seats x a e none legal = subst (λ (v : Held). AreSeated v seats) (sym e) (unseated_seated w seats x a none legal)
-
-pub unseated_scene : (w w' : Held) (seats : List Seat) (failing : List Failing) (jobs : List Job) (x : LogItem) → w' ≡ held.told w (x ∷ []) → scene_from w' seats failing jobs ≡ told (scene_from w seats failing jobs) x
-unseated_scene w w' seats failing jobs x e = ap (λ (v : Held). scene_from v seats failing jobs) e
-
--- ---- a read-only database
-
--- no file has either name, as the world's disk has it and as the scene does
-pub absent_scene : (w : Held) (seats : List Seat) (failing : List Failing) (jobs : List Job) (root : ℕ) (name : List ℕ) → w.past.start ≡ []
-    → (IsAbsent (scene_from w seats failing jobs) root name → ((state_of w.past).disk.names (Ro root name) ≡ None) × ((state_of w.past).disk.names (RoIdx root name) ≡ None))
-    × (((state_of w.past).disk.names (Ro root name) ≡ None) × ((state_of w.past).disk.names (RoIdx root name) ≡ None) → IsAbsent (scene_from w seats failing jobs) root name)
-absent_scene w seats failing jobs root name start =
-    let e = state_is w start in
-    let Names : State → Type 0 = λ s. (s.disk.names (Ro root name) ≡ None) × (s.disk.names (RoIdx root name) ≡ None) in
-    (λ there. subst Names (sym e) there, λ here. subst Names e here)
 
 -- the same where the world may have refused it, and then nothing changed
 pub either_seated : {T E : Type 0} (result : Result T E) (w w' : Held) (seats : List Seat) (x : LogItem) → AreSeated w seats → OnOk result (w' ≡ held.told w (x ∷ [])) → OnErr result (w' ≡ w) → seat_of x ≡ None → IsLegal (state_of w.past) x → AreSeated w' seats

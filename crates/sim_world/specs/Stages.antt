@@ -1,10 +1,9 @@
 -- What a stage means: the scene that it is, where each seat stands, and what is kept from turn to turn.
 use Rattle.std.specs.Prelude.{◌≡◌, ◌<◌, ℕ, List, [], map, length, Option, Some, None}
 use Rattle.std.specs.List.{AllByRecursion, Contains}
-use Rattle.cache_types.specs.declared.request.Request.{Request}
 use Rattle.cache_types.specs.declared.seat.Who.{Who}
 use Rattle.file_log.specs.declared.ticket.Ticket.{Ticket}
-use Rattle.file_log.specs.Legal.{Legal, IsPut}
+use Rattle.file_log.specs.Legal.{Legal}
 use Rattle.file_log.specs.State.{State, first, state_of}
 use Rattle.file_model.specs.Held.{Held}
 use Rattle.files_api.specs.declared.machine.Step.{Step}

@@ -1,4 +1,4 @@
-use Rattle.std.proofs.Common.{◌≡◌, ◌∙◌, ◌+◌, ◌<◌, ◌++◌, ◌∷◌, [], List, ℕ, Bool, true, nat_eq, cond, refl, sym, ap, subst, arith, rules, is_ok, vec_len, vec_capacity}
+use Rattle.std.proofs.Common.{◌≡◌, ◌∙◌, ◌<◌, ◌++◌, ◌∷◌, [], List, ℕ, true, refl, ap, arith, rules, is_ok, vec_len, vec_capacity}
 use Rattle.file_log.specs.declared.item.LogItem.TheVariants.{Queued}
 use Rattle.file_log.specs.declared.ticket.Ticket.{Ticket}
 use Rattle.sim_world.specs.declared.jobs.Job.{Job}
@@ -60,4 +60,4 @@ returns-clause-plays c =
     let put : c.push-added.new.self.items ≡ old.jobs.items ++ job ∷ [] = put_last (is_ok c.push-added.result) old.jobs.items kept.items c.push-added.new.self.items job c.push-added.ensures.items (c.push-added.ensures.succeeds room) c.reserve.ensures.items in
     turn_applied scene new may
     (offered_scene_now old.world c.queued.new.self old.seats.items old.failing.items p request c.in_ok-told.told c.in_ok-request.request ticket old.jobs.items c.push-added.new.self.items old.offered.items
-        c.requires.queues c.requires.seated.start ticket_is c.in_ok-queued.ensures.ok c.in_ok-told.ensures c.in_ok-request.ensures put)
+    c.requires.queues c.requires.seated.start ticket_is c.in_ok-queued.ensures.ok c.in_ok-told.ensures c.in_ok-request.ensures put)

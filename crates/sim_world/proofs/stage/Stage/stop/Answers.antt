@@ -1,4 +1,4 @@
-use Rattle.std.proofs.Common.{[], ◌∷◌, sym, subst}
+use Rattle.std.proofs.Common.{sym, subst}
 use Rattle.file_log.specs.declared.item.LogItem.TheVariants.{Stop}
 use Rattle.file_model.specs.Held.{Held}
 use Rattle.sim_world.specs.Stages.{AreSeated}

@@ -1,11 +1,10 @@
-use Rattle.std.proofs.Common.{◌≡◌, ◌∙◌, Some, Option, List, option_map, true, ap, rules}
-use Rattle.file_log.specs.declared.ticket.Ticket.{Ticket}
+use Rattle.std.proofs.Common.{◌≡◌, ◌∙◌, Some, List, option_map, true, ap, rules}
 use Rattle.sim_world.specs.declared.jobs.Job.{Job}
 use Rattle.sim_world.specs.Played.{IsFree}
 use Rattle.sim_world.specs.Scene.{Waiting}
 use Rattle.sim_world.specs.Stages.{scene_from}
 use Rattle.sim_world.specs.Tables.{jobs_of, front}
-use Rattle.sim_world.proofs.Turning.{may_take, taken_seated_now, taken_jobs_now, taken_scene_now, turn_applied}
+use Rattle.sim_world.proofs.Turning.{taken_seated_now, taken_jobs_now}
 use Rattle.sim_world.proofs.stage.Stage.take.Goals as goal
 
 pub returns-in-Some-take_front-clause-order : goal.returns-in-Some-take_front-clause-order
@@ -15,7 +14,7 @@ returns-in-Some-take_front-clause-order c =
     let yes : c.is_free.result ≡ true = search rules in
     let free : IsFree (scene_from old.world old.seats.items old.failing.items old.jobs.items) who = c.is_free.ensures.0 yes in
     let first : Some c.in-Some.ticket ≡ option_map (λ (x : Waiting). x.ticket) (front (jobs_of who.process old.jobs.items)) =
-        c.in-Some.ensures ∙ ap (λ (jobs : List Job). option_map (λ (x : Waiting). x.ticket) (front (jobs_of who.process jobs))) c.deref.ensures.value in
+    c.in-Some.ensures ∙ ap (λ (jobs : List Job). option_map (λ (x : Waiting). x.ticket) (front (jobs_of who.process jobs))) c.deref.ensures.value in
     let job = c.in-Some-take_front.job in
     let found = c.in-Some-take_front.ensures in
     record {
