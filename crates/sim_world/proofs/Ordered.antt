@@ -81,10 +81,6 @@ pub once_back : (who : Who) (task : Option Task) (old out : List Seat) → ((w :
 once_back who None old out taken once = once
 once_back who (Some task) old out taken once = (changed_here who None old out taken, once)
 
--- a table in which the seat had nothing
-new_by : (b : Bool) (task rest : Option Task) → cond b task rest ≡ cond b task rest
-new_by b task rest = refl
-
 pub put_new : (who : Who) (task : Task) (old : List Seat) → Changes who (Some task) old (seats_with who (Some task) old)
 put_new who task old = λ w. refl
 

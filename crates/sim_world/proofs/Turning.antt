@@ -1,6 +1,6 @@
 -- What each turn but a step keeps, and that it is the schedule's.
 use Rattle.std.proofs.Common.{◌≡◌, ◌↔◌, ◌<◌, inl, inr, ℕ, ◌+◌, cond, nat_eq, not, ◌||◌, Bool, true, false, IsTrue, List, [], ◌∷◌, ◌++◌, length, map, drop, Option, Some, None, Result, Ok, Err, OnOk, OnErr, refl, sym, ap, subst, ◌∙◌, arith}
-use Rattle.std.specs.Prelude.{is_none, option_map}
+use Rattle.std.specs.Prelude.{option_map}
 use Rattle.std.specs.List.{Contains, AllByRecursion}
 use Rattle.std.proofs.lemmas.Bool.{false≢true, eqb-true}
 use Rattle.std.proofs.lemmas.List.Sums.{fold-append}
@@ -29,7 +29,7 @@ use Rattle.sim_world.specs.declared.seats.Seat.{Seat}
 use Rattle.sim_world.specs.declared.seats.Task.{Task}
 use Rattle.sim_world.specs.declared.seats.Task.TheVariants as tasks
 use Rattle.sim_world.specs.Played.{Turns, IsFree, IsAbsent, MayOffer, offered, taken}
-use Rattle.sim_world.specs.Scene.{Scene, Idle, Asked, Waiting, opening, told, with_seat, with_queue, without_seats, next_ticket}
+use Rattle.sim_world.specs.Scene.{Scene, Idle, Asked, Waiting, told, with_seat, with_queue, next_ticket}
 use Rattle.sim_world.specs.Stages.{activity_of, scene_from, where_of, seats_at, IsFit, AreSeated, AreJobs, IsJob}
 use Rattle.sim_world.specs.Tables.{task_of, Once, seats_with, jobs_of, waiting_of, front, offered_to}
 use Rattle.sim_world.proofs.JobTable.{one_more}
@@ -39,15 +39,8 @@ use Rattle.sim_world.proofs.Stepping.{state_told}
 
 -- ---- turns that apply, and others
 
-pub turn_passed : {P Q : Type 0} (old : Scene) → (P → ⊥) → Turns P old old Q
-turn_passed old never = record { applied = λ p. absurd (never p); passed = λ none. refl }
-
 pub turn_applied : {P Q : Type 0} (old new : Scene) → P → Q → Turns P old new Q
 turn_applied old new p does = record { applied = λ again. does; passed = λ none. absurd (none p) }
-
--- a test that failed
-pub fails_so : {P : Type 0} (b : Bool) → (IsTrue b ↔ P) → b ≡ false → P → ⊥
-fails_so b decides e p = false≢true (sym e ∙ decides.1 p)
 
 -- ---- before any turn
 
@@ -57,17 +50,11 @@ first_seated apart w e = subst (λ (v : Held). AreSeated apart v []) (sym e) (re
 pub first_jobs : (w : Held) → w ≡ record { past = record { start = []; log = [] }; clock = 0 } → AreJobs (state_of w.past) [] []
 first_jobs w e = subst (λ (v : Held). AreJobs (state_of v.past) [] []) (sym e) (record { tickets = λ p. refl; fit = λ p. tt; count = λ p. refl; lower = λ p ticket there. absurd (omega (arith, there.1)) })
 
-pub first_scene : (w : Held) → w ≡ record { past = record { start = []; log = [] }; clock = 0 } → scene_from w [] [] [] ≡ opening
-first_scene w e = ap (λ (v : Held). scene_from v [] [] []) e
-
 -- ---- tests
 
 not_decides : (h x : Bool) → h ≡ x → IsTrue (not h) ↔ (x ≡ false)
 not_decides true x e = (λ clash. absurd cc, λ never. absurd (false≢true (sym never ∙ sym e)))
 not_decides false x e = (λ yes. sym e, λ never. refl)
-
-pub goes_on_decides : (w : Held) (p : ℕ) (h : Bool) → h ≡ (state_of w.past).halted p → IsTrue (not h) ↔ ((state_of w.past).halted p ≡ false)
-goes_on_decides w p h e = not_decides h _ e
 
 pub goes_on_scene : (w : Held) (p : ℕ) (h : Bool) → w.past.start ≡ [] → h ≡ (state_of w.past).halted p → IsTrue (not h) ↔ ((state_of (past w.past.log)).halted p ≡ false)
 goes_on_scene w p h start e = not_decides h _ (e ∙ ap (λ (s : State). s.halted p) (state_is w start))
@@ -76,14 +63,6 @@ idle_is : (task : Option Task) → activity_of task ≡ Idle → task ≡ None
 idle_is None e = refl
 idle_is (Some (tasks.Asked request)) e = absurd cc
 idle_is (Some (tasks.Begun operation)) e = absurd cc
-
-idle_decides : (task : Option Task) → IsTrue (is_none task) ↔ (activity_of task ≡ Idle)
-idle_decides None = (λ yes. refl, λ e. refl)
-idle_decides (Some (tasks.Asked request)) = (λ clash. absurd cc, λ e. absurd cc)
-idle_decides (Some (tasks.Begun operation)) = (λ clash. absurd cc, λ e. absurd cc)
-
-pub is_idle_scene : (seats : List Seat) (who : Who) (i : Bool) → i ≡ is_none (task_of seats who) → IsTrue i ↔ (activity_of (task_of seats who) ≡ Idle)
-is_idle_scene seats who i e = subst (λ (b : Bool). IsTrue b ↔ (activity_of (task_of seats who) ≡ Idle)) (sym e) (idle_decides (task_of seats who))
 
 pub free_none : (seats : List Seat) (who : Who) → activity_of (task_of seats who) ≡ Idle → task_of seats who ≡ None
 free_none seats who e = idle_is (task_of seats who) e
@@ -106,11 +85,6 @@ asked_seated {apart = apart} w seats who request a none built = record {
   fits = fits_then who (Some (tasks.Asked request)) seats (seats_with who (Some (tasks.Asked request)) seats) (put_new who (tasks.Asked request) seats) built a.fits;
 }
 
-pub asked_scene : (w : Held) (seats : List Seat) (failing : List Failing) (jobs : List Job) (who : Who) (request : Request) → scene_from w (seats_with who (Some (tasks.Asked request)) seats) failing jobs ≡ with_seat (scene_from w seats failing jobs) who (Asked request)
-asked_scene w seats failing jobs who request =
-    same_scene (scene_from w (seats_with who (Some (tasks.Asked request)) seats) failing jobs) (with_seat (scene_from w seats failing jobs) who (Asked request)) refl refl
-    (activity_then who (Some (tasks.Asked request)) seats (seats_with who (Some (tasks.Asked request)) seats) (put_new who (tasks.Asked request) seats)) (λ v. refl) (λ p. refl)
-
 -- ---- queues that stay
 
 pub jobs_same : (s s' : State) (jobs : List Job) (offered : List Offered) → ((p : ℕ) → s'.waiting p ≡ s.waiting p) → ((p : ℕ) → s'.used p ≡ s.used p) → AreJobs s jobs offered → AreJobs s' jobs offered
@@ -126,11 +100,6 @@ pub jobs_told : (w : Held) (x : LogItem) (jobs : List Job) (offered : List Offer
     → AreJobs (state_of w.past) jobs offered → AreJobs (state_of (held.told w (x ∷ [])).past) jobs offered
 jobs_told w x jobs offered waiting used j =
     subst (λ (s : State). AreJobs s jobs offered) (sym (state_told w (x ∷ []))) (jobs_same (state_of w.past) (after (state_of w.past) x) jobs offered waiting used j)
-
--- ---- an item of no seat
-
-pub told_scene : (w : Held) (seats : List Seat) (failing : List Failing) (jobs : List Job) (x : LogItem) → scene_from (held.told w (x ∷ [])) seats failing jobs ≡ told (scene_from w seats failing jobs) x
-told_scene w seats failing jobs x = refl
 
 -- ---- a process that is stopped
 
@@ -153,10 +122,6 @@ cleared_fit : (b : Bool) (task : Option Task) → IsFit task → IsFit (cond b N
 cleared_fit true task fits = tt
 cleared_fit false task fits = fits
 
-cleared_activity : (b : Bool) (task : Option Task) → activity_of (cond b None task) ≡ cond b Idle (activity_of task)
-cleared_activity true task = refl
-cleared_activity false task = refl
-
 pub stopped_seated : {apart : Who → Bool} (w : Held) (p : ℕ) (seats seats' : List Seat) → AreSeated apart w seats → Clears p seats seats' → Once seats' → AreSeated apart (held.told w (items.Stop p ∷ [])) seats'
 stopped_seated {apart = apart} w p seats seats' a clears once =
     let stopped = unseated_seated w seats (items.Stop p) a refl (tt, tt) in
@@ -168,12 +133,6 @@ stopped_seated {apart = apart} w p seats seats' a clears once =
       once = once;
       fits = λ v. subst IsFit (sym (clears v)) (cleared_fit (nat_eq v.process p) (task_of seats v) (a.fits v));
     }
-
-pub stopped_scene : (w : Held) (p : ℕ) (seats seats' : List Seat) (failing : List Failing) (jobs : List Job) → Clears p seats seats'
-    → scene_from (held.told w (items.Stop p ∷ [])) seats' failing jobs ≡ without_seats (told (scene_from w seats failing jobs) (items.Stop p)) p
-stopped_scene w p seats seats' failing jobs clears =
-    same_scene (scene_from (held.told w (items.Stop p ∷ [])) seats' failing jobs) (without_seats (told (scene_from w seats failing jobs) (items.Stop p)) p) refl refl
-    (λ v. ap activity_of (clears v) ∙ cleared_activity (nat_eq v.process p) (task_of seats v)) (λ v. refl) (λ q. refl)
 
 -- ---- the clock
 
@@ -241,9 +200,6 @@ offered_jobs w p request ticket jobs offered' offered'' count j number more buil
       count = λ q. counted q ∙ count_by (nat_eq p q) (nat_eq q p) count (offered_to offered' q) ticket (s.used q) (nat_flip p q) (λ e. omega (arith, more, number_at q e)) (j.count q);
       lower = λ q. lower_by (nat_eq p q) ticket (s.used q) (λ e. number_at q (nat_flip q p ∙ e)) (j.lower q);
     })
-
-queue_by : (k : Bool) (jobs : List Waiting) (x y : Waiting) → x ≡ y → cond k (jobs ++ x ∷ []) jobs ≡ cond k (jobs ++ y ∷ []) jobs
-queue_by k jobs x y e = ap (λ (z : Waiting). cond k (jobs ++ z ∷ []) jobs) e
 
 other_queue : (k : Bool) (q p : ℕ) (jobs : List Job) (x : Waiting) → nat_eq q p ≡ k → cond k (jobs_of q jobs ++ x ∷ []) (jobs_of q jobs) ≡ cond k (jobs_of p jobs ++ x ∷ []) (jobs_of q jobs)
 other_queue true q p jobs x e = ap (λ (n : ℕ). jobs_of n jobs ++ x ∷ []) (eqb-true q p e)
