@@ -20,14 +20,31 @@ const LENGTH: usize = 42;
 
 const HIT: usize = 45;
 
-/// The verdict on the log up to an item, with another item at a place.
-fn judged(alloc: Global, place: usize, item: LogItem, last: usize) -> Result<Verdict, Fail> {
-    let mut log = put_and_found(alloc)?;
+/// The log up to an item, with another item at a place.
+fn spoil(
+    log: Vec<LogItem>,
+    place: usize,
+    item: LogItem,
+    last: usize,
+) -> Result<Vec<LogItem>, Fail> {
+    let mut log = log;
     if place >= log.len() {
         return Err("the log is shorter".into());
     }
     log[place] = item;
     log.truncate(last.saturating_add(1));
+    Ok(log)
+}
+
+/// The log of a put of `abc` and a lookup, spoilt so.
+fn spoilt(alloc: Global, place: usize, item: LogItem, last: usize) -> Result<Vec<LogItem>, Fail> {
+    let log = put_and_found(alloc)?;
+    spoil(log, place, item, last)
+}
+
+/// The verdict on the log up to an item, with another item at a place.
+fn judged(alloc: Global, place: usize, item: LogItem, last: usize) -> Result<Verdict, Fail> {
+    let log = spoilt(alloc, place, item, last)?;
     Ok(check_log(alloc, &log)?)
 }
 
