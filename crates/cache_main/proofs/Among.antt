@@ -1,5 +1,6 @@
 -- A call of the program among seats that keep the rules.
-use Rattle.std.proofs.Common.{◌≡◌, ◌⊎◌, inl, inr, ℕ, List, Option, Some, refl, sym, ◌∙◌, subst}
+use Rattle.std.proofs.Common.{◌≡◌, ◌⊎◌, inl, inr, ℕ, true, List, Option, Some, refl, sym, ◌∙◌, subst}
+use Rattle.std.proofs.lemmas.Bool.{false≢true}
 use Rattle.cache_types.specs.Driver.{DriverKeys}
 use Rattle.cache_types.specs.declared.answer.Answer.{Answer}
 use Rattle.cache_types.specs.declared.answer.Answer.TheVariants as answers
@@ -31,9 +32,9 @@ use Rattle.cache_main.specs.Cooperating.{WasMissing}
 use Rattle.cache_main.specs.Ends.{Ends}
 use Rattle.cache_main.specs.Printing.{IsWritten}
 use Rattle.cache_main.specs.Requests.{request_for, request_of}
-use Rattle.cache_main.specs.Served.{ServedBy}
+use Rattle.cache_main.specs.Served.{OperationServed, ServedBy}
 use Rattle.cache_main.specs.Top.{IsRefused, IsUnread, AsksNoFiles}
-use Rattle.cache_main.specs.Words.{IsOperation}
+use Rattle.cache_main.specs.Words.{IsOperation, is_served}
 
 -- ---- own items keep the rules
 
@@ -79,10 +80,14 @@ module _ (me : Who) (old new : Option History) (before now : ℕ) where
   abbrev Lacks : DriverKeys → Key → Type 0
   Lacks driver key = Grows old new (λ h news. HasKept h → OthersKeepRules me h news → WasLacking me 0 driver key h news)
 
-  operation_missed : (word : Word) (driver : DriverKeys) (max : ℕ) (key : Key) (meta : Meta) (blob : List ℕ) (a : Answer) → status_of_answer a ≡ statuses.Miss → Operates me (request_for word driver max key meta blob) old new before now a → Lacks driver key
-  operation_missed commands.Put driver max key meta blob a e (inl put) = absurd (put_missed a put.1.kind e)
-  operation_missed commands.Put driver max key meta blob a e (inr large) = absurd (large_missed a _ large.1.answer_is e)
-  operation_missed word driver max key meta blob a e done = Grows-map old new _ _ done.told (λ h news looks kept others. looks.misses (refl, refl, refl) kept others (lookup_missed a done.kind e))
+  -- a get alone ends in a miss
+  operation_missed : (word : Word) (driver : DriverKeys) (max : ℕ) (key : Key) (meta : Meta) (blob : List ℕ) (a : Answer) → IsOperation word → status_of_answer a ≡ statuses.Miss → Operates me (request_for word driver max key meta blob) old new before now a
+      → (word ≡ commands.Get) × Lacks driver key
+  operation_missed commands.Put driver max key meta blob a operates e (inl put) = absurd (put_missed a put.1.kind e)
+  operation_missed commands.Put driver max key meta blob a operates e (inr large) = absurd (large_missed a _ large.1.answer_is e)
+  operation_missed commands.Get driver max key meta blob a operates e done =
+      (refl, Grows-map old new _ _ done.told (λ h news looks kept others. looks.misses (refl, refl, refl) kept others (lookup_missed a done.kind e)))
+  operation_missed word driver max key meta blob a operates e done = absurd operates
 
   module _ (command : Command) (vars : Environment) (status : Status) (left left' written written' : Option (List ℕ)) (failed failed' : ℕ) where
     served_keeps : (word : Word) → ((IsOperation word → ⊥) → new ≡ old) → ServedBy word command vars me status old new before now left left' written written' failed failed' → Grows old new (KeepsOwn me)
@@ -90,14 +95,17 @@ module _ (me : Who) (old new : Option History) (before now : ℕ) where
     served_keeps commands.Settings none s = stays me old new (none (λ operation. operation))
     served_keeps word none s = keeps_own me old new before now s.answer (request_of command s.settings s.key s.meta s.blob) (asks_folder command.word (driver_asked command) s.settings.max s.key s.meta s.blob) s.done
 
-    served_missed : (word : Word) → status ≡ statuses.Miss → ServedBy word command vars me status old new before now left left' written written' failed failed' → WasMissing command me old new
-    served_missed commands.Key e s = let clash : statuses.Ok ≡ statuses.Miss = missed _ statuses.Ok status written written' failed failed' s.printed e in absurd cc
-    served_missed commands.Settings e s = let clash : statuses.Ok ≡ statuses.Miss = missed _ statuses.Ok status written written' failed failed' s.printed e in absurd cc
-    served_missed word e s = record {
-      key = s.key;
-      spells = s.spells;
-      lacking = operation_missed command.word (driver_asked command) s.settings.max s.key s.meta s.blob s.answer (missed _ (status_of_answer s.answer) status written written' failed failed' s.printed e) s.done;
-    }
+    operation_missing : IsOperation command.word → status ≡ statuses.Miss → OperationServed command vars me status old new before now left left' written written' failed failed' → WasMissing command me old new
+    operation_missing operates e s =
+        let m = operation_missed command.word (driver_asked command) s.settings.max s.key s.meta s.blob s.answer operates (missed _ (status_of_answer s.answer) status written written' failed failed' s.printed e) s.done in
+        record { gets = m.0; key = s.key; spells = s.spells; lacking = m.1 }
+
+    served_missed : (word : Word) → command.word ≡ word → is_served word ≡ true → status ≡ statuses.Miss → ServedBy word command vars me status old new before now left left' written written' failed failed' → WasMissing command me old new
+    served_missed commands.Key is served e s = let clash : statuses.Ok ≡ statuses.Miss = missed _ statuses.Ok status written written' failed failed' s.printed e in absurd cc
+    served_missed commands.Settings is served e s = let clash : statuses.Ok ≡ statuses.Miss = missed _ statuses.Ok status written written' failed failed' s.printed e in absurd cc
+    served_missed commands.Put is served e s = operation_missing (subst IsOperation (sym is) tt) e s
+    served_missed commands.Get is served e s = operation_missing (subst IsOperation (sym is) tt) e s
+    served_missed word is served e s = absurd (false≢true served)
 
     module _ {Files Source Sink : Type 0} (lost lost' : ℕ) (ends : Ends (Some command) vars me status Files Source Sink old new before now left left' lost lost' written written' failed failed') where
       abbrev Outcome : Type 0
@@ -114,11 +122,11 @@ module _ (me : Who) (old new : Option History) (before now : ℕ) where
           by_outcome (inr (inr (inr served))) = served_keeps command.word (λ no. same (none no)) served
 
       -- Where it ends in a miss, its store was lacking.
-      pub ends_missed : status ≡ statuses.Miss → WasMissing command me old new
-      ends_missed e = by_outcome ends.served
+      pub ends_missed : is_served command.word ≡ true → status ≡ statuses.Miss → WasMissing command me old new
+      ends_missed serves e = by_outcome ends.served
         where
           by_outcome : Outcome → WasMissing command me old new
           by_outcome (inl refused) = absurd (subst IsRefused e refused)
           by_outcome (inr (inl unread)) = absurd (subst IsUnread e unread)
           by_outcome (inr (inr (inl lack))) = let clash : statuses.NoMemory ≡ statuses.Miss = sym lack.0 ∙ e in absurd cc
-          by_outcome (inr (inr (inr served))) = served_missed command.word e served
+          by_outcome (inr (inr (inr served))) = served_missed command.word refl serves e served

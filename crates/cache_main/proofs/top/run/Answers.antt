@@ -20,7 +20,7 @@ pub returns-in-Ok-clause-misses : goal.returns-in-Ok-clause-misses
 returns-in-Ok-clause-misses g c =
     let f = g.F.Files in
     subst (λ (asked : Option Command). MissesTruly asked (f.me c.args.files.now) c.run_command.result (f.history c.args.files.now) (f.history c.run_command.new.files)) (sym c.in-Ok.ensures.asked)
-    (ends_missed (f.me c.args.files.now) (f.history c.args.files.now) (f.history c.run_command.new.files) _ _ c.in-Ok.command (texts_of c.args.vars.now) c.run_command.result _ _ _ _ _ _ _ _ c.run_command.ensures.ends)
+    (ends_missed (f.me c.args.files.now) (f.history c.args.files.now) (f.history c.run_command.new.files) _ _ c.in-Ok.command (texts_of c.args.vars.now) c.run_command.result _ _ _ _ _ _ _ _ c.run_command.ensures.ends c.in-Ok.ensures.served)
 
 pub returns-in-Err-clause-keeps : goal.returns-in-Err-clause-keeps
 returns-in-Err-clause-keeps g c =
