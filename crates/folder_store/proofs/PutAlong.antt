@@ -100,7 +100,7 @@ module _ (t : Task) (some : nat_eq (length t.item) 0 ≡ false) (reads : Reads t
   follows : (phase : PutPhase) (bytes : List ℕ) (reply : Reply) (h : History) (x : LogItem) (made : List LogItem) → Stepped t phase bytes reply h x made → Moved t phase bytes reply h x made
   follows phase bytes reply h x made s = record { rules = s.rules; within = s.within; evicts = s.evicts; does = subst (λ (l : List LogItem). Doing t phase bytes reply l (with_item h x)) (sym s.last) s.follows }
 
-  moves : (phase : PutPhase) (bytes : List ℕ) (reply : Reply) (x : LogItem) (made : List LogItem) (h : History) → In t h → Doing t phase bytes reply (x ∷ made) h → CanFollow h x → Moved t phase bytes reply h x made
+  pub moves : (phase : PutPhase) (bytes : List ℕ) (reply : Reply) (x : LogItem) (made : List LogItem) (h : History) → In t h → Doing t phase bytes reply (x ∷ made) h → CanFollow h x → Moved t phase bytes reply h x made
   moves (Opening look) bytes reply x made h i d legal = follows (Opening look) bytes reply h x made (opening t look bytes reply h x made i d.0 d.1 d.2 legal)
   moves (Measuring look) bytes reply x made h i d legal = follows (Measuring look) bytes reply h x made (measuring t look bytes reply h x made i d.0 d.1 d.2 legal)
   moves (Reading look n) bytes reply x made h i d legal = follows (Reading look n) bytes reply h x made (reading t look n bytes reply h x made i d.0 d.1 d.2 legal)
