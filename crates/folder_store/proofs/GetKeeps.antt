@@ -40,17 +40,11 @@ use Rattle.folder_store.proofs.Since.{seen_since, before_too, own_stands}
 use Rattle.folder_store.proofs.Stronger.{Stronger, IsStronger, keeps_rules, all_more, keeps_stronger}
 
 module _ (me : Who) (root : ℕ) (driver : DriverKeys) (key : Key) (ro : RoPlan) (fits : IsDriver driver) where
-  abbrev request : Request
-  request = asked_for me root driver key ro
+  abbrev this_lookup : Request
+  this_lookup = asked_for me root driver key ro
 
   abbrev Lacks : History → Type 0
   Lacks h = Told me root driver key ro answers.Miss h
-
-  abbrev Between : FolderGet → History → Type 0
-  Between m h = along.Between me root driver key ro fits m h
-
-  abbrev During : FolderGet → Call → Reply → List LogItem → History → Type 0
-  During m call reply made h = along.During me root driver key ro fits m call reply made h
 
   -- ---- what a miss says
 
@@ -64,7 +58,7 @@ module _ (me : Who) (root : ℕ) (driver : DriverKeys) (key : Key) (ro : RoPlan)
   says_call h call replies.NoMemory = tt
   says_call h call reply = tt
 
-  says_during : (m : FolderGet) (call : Call) (reply : Reply) (x : LogItem) (made : List LogItem) (h : History) → During m call reply (x ∷ made) h → Says h x
+  says_during : (m : FolderGet) (call : Call) (reply : Reply) (x : LogItem) (made : List LogItem) (h : History) → along.During me root driver key ro fits m call reply (x ∷ made) h → Says h x
   says_during m call reply x made h d =
       let is : x ∷ made ≡ item_for me call reply ∷ [] = d.2.4 in
       let same : item_for me call reply ≡ x = cc in
@@ -81,7 +75,7 @@ module _ (me : Who) (root : ℕ) (driver : DriverKeys) (key : Key) (ro : RoPlan)
 
   -- ---- the whole lookup
 
-  says : (first : FolderGet) (answer : Answer) → IsNew root driver key first → IsStronger asks asked Fed me Between During (along.inductive me root driver key ro fits) Says first request answer
+  says : (first : FolderGet) (answer : Answer) → IsNew root driver key first → IsStronger (along.inductive me root driver key ro fits) Says first this_lookup answer
   says first answer new = record {
     begins = λ h. tt;
     starts = λ h i. along.starts me root driver key ro fits first h new i;
@@ -92,22 +86,22 @@ module _ (me : Who) (root : ℕ) (driver : DriverKeys) (key : Key) (ro : RoPlan)
 
   -- A lookup of a seat in no operation is not the first to break a rule, or to say what it hasn't seen.
   weaves : (first last : FolderGet) (xs : List Exchange) (given answer : Answer) (h : History) (news : List LogItem) → IsNew root driver key first → Runs asks asked Fed me first xs given last → IsEndOf given answer
-      → own me news ≡ items.Begin me request ∷ (items_of_all xs ++ items.End me answer ∷ []) → Legal (state_of h) news → NoStop me.process news → IsOut me h → Keeps with_item (Stronger Says) me h news
+      → own me news ≡ items.Begin me this_lookup ∷ (items_of_all xs ++ items.End me answer ∷ []) → Legal (state_of h) news → NoStop me.process news → IsOut me h → Keeps with_item (Stronger Says) me h news
   weaves first last xs given answer h news new runs is e legal goes_on out =
-      keeps_stronger asks asked Fed me Between During (along.inductive me root driver key ro fits) Says first request answer (says first answer new) last xs given h news runs is e legal goes_on out
+      keeps_stronger (along.inductive me root driver key ro fits) Says first this_lookup answer (says first answer new) last xs given h news runs is e legal goes_on out
 
   pub keeps_asked : (first last : FolderGet) (xs : List Exchange) (given answer : Answer) (h : History) (news : List LogItem) → IsNew root driver key first → Runs asks asked Fed me first xs given last → IsEndOf given answer
-      → own me news ≡ items.Begin me request ∷ (items_of_all xs ++ items.End me answer ∷ []) → Legal (state_of h) news → NoStop me.process news → IsOut me h → Keeps with_item KeepsRules me h news
+      → own me news ≡ items.Begin me this_lookup ∷ (items_of_all xs ++ items.End me answer ∷ []) → Legal (state_of h) news → NoStop me.process news → IsOut me h → Keeps with_item KeepsRules me h news
   keeps_asked first last xs given answer h news new runs is e legal goes_on out = keeps_rules me Says says_other h news (weaves first last xs given answer h news new runs is e legal goes_on out)
 
   pub misses_asked : (first last : FolderGet) (xs : List Exchange) (given : Answer) (h : History) (news : List LogItem) → IsNew root driver key first → Runs asks asked Fed me first xs given last → IsEndOf given answers.Miss
-      → own me news ≡ items.Begin me request ∷ (items_of_all xs ++ items.End me answers.Miss ∷ []) → Legal (state_of h) news → NoStop me.process news → IsOut me h → OthersKeepRules me h news → WasLacking me root driver key h news
+      → own me news ≡ items.Begin me this_lookup ∷ (items_of_all xs ++ items.End me answers.Miss ∷ []) → Legal (state_of h) news → NoStop me.process news → IsOut me h → OthersKeepRules me h news → WasLacking me root driver key h news
   misses_asked first last xs given h news new runs is e legal goes_on out others =
       let seen = all_more me Says says_other h news (weaves first last xs given answers.Miss h news new runs is e legal goes_on out) others in
-      let stands = own_stands me news (items.Begin me request ∷ items_of_all xs) [] (items.End me answers.Miss) e in
+      let stands = own_stands me news (items.Begin me this_lookup ∷ items_of_all xs) [] (items.End me answers.Miss) e in
       let at_end : Says (fold with_item h stands.before) (items.End me answers.Miss) = all_at with_item Says h stands.before stands.later (items.End me answers.Miss) (subst (All with_item Says h) stands.news_are seen) in
       let told : Lacks (with_items h stands.before) = subst Lacks (goes_by h stands.before) (at_end (seat_self me)) in
-      let lacking = seen_since h me request (λ d. IsHeld d (address (folder_of root) driver key) → ⊥) stands.before out.idle told in
+      let lacking = seen_since h me this_lookup (λ d. IsHeld d (address (folder_of root) driver key) → ⊥) stands.before out.idle told in
       subst (WasLacking me root driver key h) (sym stands.news_are) (before_too me (λ d. IsHeld d (address (folder_of root) driver key) → ⊥) (disk_of h) stands.before (items.End me answers.Miss ∷ stands.later) lacking)
 
 -- ---- of each request for it

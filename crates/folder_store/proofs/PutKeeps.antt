@@ -9,10 +9,8 @@ use Rattle.cache_types.specs.declared.request.Request.{Request}
 use Rattle.cache_types.specs.declared.request.Request.TheVariants as requests
 use Rattle.cache_types.specs.declared.seat.Who.{Who}
 use Rattle.cache_types.specs.declared.store.Store.{Store}
-use Rattle.file_log.specs.declared.call.Call.{Call}
 use Rattle.file_log.specs.declared.item.LogItem.{LogItem}
 use Rattle.file_log.specs.declared.item.LogItem.TheVariants.{Begin, End}
-use Rattle.file_log.specs.declared.reply.Reply.{Reply}
 use Rattle.file_log.specs.Along.{Keeps}
 use Rattle.file_log.specs.Exchange.{Exchange}
 use Rattle.file_log.specs.Legal.{Legal}
@@ -35,12 +33,6 @@ use Rattle.folder_store.proofs.PutEnds.{filled, asked_reads}
 use Rattle.folder_store.proofs.Stronger.{IsStronger, keeps_rules, all_more, keeps_stronger}
 
 module _ (t : Task) (some : nat_eq (length t.item) 0 ≡ false) (reads : Reads t.driver t.item t.blob) where
-  abbrev Between : FolderPut → History → Type 0
-  Between m h = along.Between t some reads m h
-
-  abbrev During : FolderPut → Call → Reply → List LogItem → History → Type 0
-  During m call reply made h = along.During t some reads m call reply made h
-
   -- a seat's own Evict names what stands in front of the entry
   abbrev Names : History → LogItem → Type 0
   Names h x = is_own t.me x ≡ true → NamesFront t.root t.key (disk_of h) x
@@ -48,7 +40,7 @@ module _ (t : Task) (some : nat_eq (length t.item) 0 ≡ false) (reads : Reads t
   names_other : (h : History) (x : LogItem) → is_own t.me x ≡ false → Names h x
   names_other h x other = λ mine. absurd (false≢true (sym other ∙ mine))
 
-  names : (first : FolderPut) (answer : Answer) → IsNewPut t.root t.driver t.key t.item first → IsStronger asks_put asked_put FedPut t.me Between During (along.inductive t some reads) Names first (asked_for t) answer
+  names : (first : FolderPut) (answer : Answer) → IsNewPut t.root t.driver t.key t.item first → IsStronger (along.inductive t some reads) Names first (asked_for t) answer
   names first answer new = record {
     begins = λ h mine. tt;
     starts = λ h i. along.starts_new t some reads first h new i;
@@ -61,7 +53,7 @@ module _ (t : Task) (some : nat_eq (length t.item) 0 ≡ false) (reads : Reads t
   pub keeps_asked : (first last : FolderPut) (xs : List Exchange) (given answer : Answer) (h : History) (news : List LogItem) → IsNewPut t.root t.driver t.key t.item first → Runs asks_put asked_put FedPut t.me first xs given last → IsEndOf given answer
       → own t.me news ≡ Begin t.me (asked_for t) ∷ (items_of_all xs ++ End t.me answer ∷ []) → Legal (state_of h) news → NoStop t.me.process news → IsOut t.me h → Keeps with_item KeepsRules t.me h news × (OthersKeepRules t.me h news → EvictsNameFronts t.me t.root t.key h news)
   keeps_asked first last xs given answer h news new runs is e legal goes out =
-      let woven = keeps_stronger asks_put asked_put FedPut t.me Between During (along.inductive t some reads) Names first (asked_for t) answer (names first answer new) last xs given h news runs is e legal goes out in
+      let woven = keeps_stronger (along.inductive t some reads) Names first (asked_for t) answer (names first answer new) last xs given h news runs is e legal goes out in
       (keeps_rules t.me Names names_other h news woven, all_more t.me Names names_other h news woven)
 
 -- ---- of each request for it

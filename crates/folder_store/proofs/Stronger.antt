@@ -46,7 +46,7 @@ module _ (me : Who) (More : History → LogItem → Type 0) (free : (h : History
 
 -- ---- a whole operation
 
-module _ {M : Type 0} (asks : M → Step) (asked : M → M) (fed : M → Reply → M → Type 0) (me : Who) (Between : M → History → Type 0) (During : M → Call → Reply → List LogItem → History → Type 0) (ind : Inductive asks asked fed me with_item CanFollow KeepsRules Between During)
+module _ {M : Type 0} {asks : M → Step} {asked : M → M} {fed : M → Reply → M → Type 0} {me : Who} {Between : M → History → Type 0} {During : M → Call → Reply → List LogItem → History → Type 0} (ind : Inductive asks asked fed me with_item CanFollow KeepsRules Between During)
     (More : History → LogItem → Type 0) (first : M) (request : Request) (answer : Answer) where
   -- an operation's own items keep the stronger rule, at its Begin, along its calls and at its End
   pub record IsStronger : Type 0 where
