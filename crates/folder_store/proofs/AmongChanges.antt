@@ -36,7 +36,8 @@ use Rattle.folder_store.specs.declared.put_phase.Besides.TheVariants.{Lock, Lock
 use Rattle.folder_store.specs.declared.put_phase.PutPhase.TheVariants.{Evicting, Making, Cutting, Writing, Renaming, ClosingEntry, ClosingTemp, ClosingLock, Ended}
 use Rattle.folder_store.specs.PutPhases.{closing}
 use Rattle.folder_store.proofs.AmongKnown.{Task, asked_for, place, In, Holds, Going, HasWritten, Told, KnowsAt, told_then, going_then}
-use Rattle.folder_store.proofs.AmongSteps.{own_rules, asks_at, MakesIn, Steps, into, closing_knows, still_step, holds_own, failed_now, fails}
+use Rattle.folder_store.proofs.PutMakes.{MakesIn}
+use Rattle.folder_store.proofs.AmongSteps.{own_rules, asks_at, Steps, into, closing_knows, still_step, holds_own, failed_now, fails}
 use Rattle.folder_store.proofs.Keeping.{within_inner}
 use Rattle.folder_store.proofs.PutDisks.{HasTemp, lock_no_temp, apart_entry, making_apart, making_has, writing_apart, writing_has, renaming_is}
 use Rattle.folder_store.proofs.PutSteps.{AnswersIn, split}
@@ -61,7 +62,7 @@ module _ (t : Task) where
 
   -- ---- the eviction
 
-  pub evicting : (driver : DriverKeys) (bytes : List ℕ) (reply : Reply) (h : History) (x : LogItem) (left : List LogItem) → In t h → KnowsAt t (Evicting driver) bytes h → AnswersIn (asks_at t (Evicting driver) bytes) reply → MakesIn t (asks_at t (Evicting driver) bytes) reply (x ∷ left) → Steps t (Evicting driver) bytes reply h x left
+  pub evicting : (driver : DriverKeys) (bytes : List ℕ) (reply : Reply) (h : History) (x : LogItem) (left : List LogItem) → In t h → KnowsAt t (Evicting driver) bytes h → AnswersIn (asks_at t (Evicting driver) bytes) reply → MakesIn t.me (asks_at t (Evicting driver) bytes) reply (x ∷ left) → Steps t (Evicting driver) bytes reply h x left
   evicting driver bytes replies.Done h x left i k a ms = split _ x left ms (Steps t (Evicting driver) bytes replies.Done h) (λ legal.
       let evict : LogItem = Evict t.me (folder_of t.root) driver t.key in
       let h' : History = with_item h evict in
@@ -76,7 +77,7 @@ module _ (t : Task) where
 
   -- ---- the temporary file
 
-  pub making : (also : Bool) (bytes : List ℕ) (reply : Reply) (h : History) (x : LogItem) (left : List LogItem) → In t h → KnowsAt t (Making also) bytes h → AnswersIn (asks_at t (Making also) bytes) reply → MakesIn t (asks_at t (Making also) bytes) reply (x ∷ left) → Steps t (Making also) bytes reply h x left
+  pub making : (also : Bool) (bytes : List ℕ) (reply : Reply) (h : History) (x : LogItem) (left : List LogItem) → In t h → KnowsAt t (Making also) bytes h → AnswersIn (asks_at t (Making also) bytes) reply → MakesIn t.me (asks_at t (Making also) bytes) reply (x ∷ left) → Steps t (Making also) bytes reply h x left
   making also bytes replies.Done h x left i k a ms = split _ x left ms (Steps t (Making also) bytes replies.Done h) (λ legal.
       let did : LogItem = Did t.me (calls.OpenNew 3 temp_name) replies.Done in
       let h' : History = with_item h did in
@@ -123,7 +124,7 @@ module _ (t : Task) where
       locks f None = refl
       locks f (Some g') = refl
 
-  pub cutting : (also : Bool) (bytes : List ℕ) (reply : Reply) (h : History) (x : LogItem) (left : List LogItem) → In t h → KnowsAt t (Cutting also) bytes h → AnswersIn (asks_at t (Cutting also) bytes) reply → MakesIn t (asks_at t (Cutting also) bytes) reply (x ∷ left) → Steps t (Cutting also) bytes reply h x left
+  pub cutting : (also : Bool) (bytes : List ℕ) (reply : Reply) (h : History) (x : LogItem) (left : List LogItem) → In t h → KnowsAt t (Cutting also) bytes h → AnswersIn (asks_at t (Cutting also) bytes) reply → MakesIn t.me (asks_at t (Cutting also) bytes) reply (x ∷ left) → Steps t (Cutting also) bytes reply h x left
   cutting also bytes replies.Done h x left i k a ms = split _ x left ms (Steps t (Cutting also) bytes replies.Done h) (λ legal.
       let did : LogItem = Did t.me (calls.Cut 3 0) replies.Done in
       let c : Changed h did [] = changed h did k.2.0 (take 0) i refl refl tt refl k.1 k.2.1 in
@@ -141,7 +142,7 @@ module _ (t : Task) where
       let there : Contains ((i.inside.before ++ begin ∷ []) ++ i.inside.since) begin = Contains-append_left (i.inside.before ++ begin ∷ []) i.inside.since begin (Contains-push i.inside.before begin) in
       (t.me, t.meta, t.limit, subst (λ (l : List LogItem). Contains l begin) (append_assoc i.inside.before (begin ∷ []) i.inside.since ∙ sym i.inside.log_is) there)
 
-  pub renaming : Reads t.driver t.item t.blob → (also : Bool) (bytes : List ℕ) (reply : Reply) (h : History) (x : LogItem) (left : List LogItem) → In t h → KnowsAt t (Renaming also) bytes h → AnswersIn (asks_at t (Renaming also) bytes) reply → MakesIn t (asks_at t (Renaming also) bytes) reply (x ∷ left) → Steps t (Renaming also) bytes reply h x left
+  pub renaming : Reads t.driver t.item t.blob → (also : Bool) (bytes : List ℕ) (reply : Reply) (h : History) (x : LogItem) (left : List LogItem) → In t h → KnowsAt t (Renaming also) bytes h → AnswersIn (asks_at t (Renaming also) bytes) reply → MakesIn t.me (asks_at t (Renaming also) bytes) reply (x ∷ left) → Steps t (Renaming also) bytes reply h x left
   renaming reads also bytes replies.Done h x left i k a ms = split _ x left ms (Steps t (Renaming also) bytes replies.Done h) (λ legal.
       let did : LogItem = Did t.me (calls.Rename temp_name entry_name) replies.Done in
       let d : Disk = disk_of h in
@@ -162,20 +163,20 @@ module _ (t : Task) where
 
   -- ---- the end
 
-  pub closing_entry : (answer : Answer) (besides : Besides) (bytes : List ℕ) (reply : Reply) (h : History) (x : LogItem) (left : List LogItem) → In t h → KnowsAt t (ClosingEntry answer besides) bytes h → AnswersIn (asks_at t (ClosingEntry answer besides) bytes) reply → MakesIn t (asks_at t (ClosingEntry answer besides) bytes) reply (x ∷ left) → Steps t (ClosingEntry answer besides) bytes reply h x left
+  pub closing_entry : (answer : Answer) (besides : Besides) (bytes : List ℕ) (reply : Reply) (h : History) (x : LogItem) (left : List LogItem) → In t h → KnowsAt t (ClosingEntry answer besides) bytes h → AnswersIn (asks_at t (ClosingEntry answer besides) bytes) reply → MakesIn t.me (asks_at t (ClosingEntry answer besides) bytes) reply (x ∷ left) → Steps t (ClosingEntry answer besides) bytes reply h x left
   closing_entry answer besides bytes replies.Done h x left i k a ms = split _ x left ms (Steps t (ClosingEntry answer besides) bytes replies.Done h) (λ legal.
       let did : LogItem = Did t.me (calls.Close 1) replies.Done in
       let told = told_then t answer h did (within_inner t.me did refl) k in
       still_step t (ClosingEntry answer besides) bytes replies.Done h did i refl tt tt (record { names = λ name. refl; files = λ f. refl }) (into t (closing answer false besides) bytes (with_item h did) (closing_knows t answer false besides bytes (with_item h did) told)))
   closing_entry answer besides bytes reply h x left i k a ms = absurd a
 
-  pub closing_temp : (answer : Answer) (bytes : List ℕ) (reply : Reply) (h : History) (x : LogItem) (left : List LogItem) → In t h → KnowsAt t (ClosingTemp answer) bytes h → AnswersIn (asks_at t (ClosingTemp answer) bytes) reply → MakesIn t (asks_at t (ClosingTemp answer) bytes) reply (x ∷ left) → Steps t (ClosingTemp answer) bytes reply h x left
+  pub closing_temp : (answer : Answer) (bytes : List ℕ) (reply : Reply) (h : History) (x : LogItem) (left : List LogItem) → In t h → KnowsAt t (ClosingTemp answer) bytes h → AnswersIn (asks_at t (ClosingTemp answer) bytes) reply → MakesIn t.me (asks_at t (ClosingTemp answer) bytes) reply (x ∷ left) → Steps t (ClosingTemp answer) bytes reply h x left
   closing_temp answer bytes replies.Done h x left i k a ms = split _ x left ms (Steps t (ClosingTemp answer) bytes replies.Done h) (λ legal.
       let did : LogItem = Did t.me (calls.Close 3) replies.Done in
       still_step t (ClosingTemp answer) bytes replies.Done h did i refl tt tt (record { names = λ name. refl; files = λ f. refl }) (into t (ClosingLock answer) bytes (with_item h did) (told_then t answer h did (within_inner t.me did refl) k)))
   closing_temp answer bytes reply h x left i k a ms = absurd a
 
-  pub closing_lock : (answer : Answer) (bytes : List ℕ) (reply : Reply) (h : History) (x : LogItem) (left : List LogItem) → In t h → KnowsAt t (ClosingLock answer) bytes h → AnswersIn (asks_at t (ClosingLock answer) bytes) reply → MakesIn t (asks_at t (ClosingLock answer) bytes) reply (x ∷ left) → Steps t (ClosingLock answer) bytes reply h x left
+  pub closing_lock : (answer : Answer) (bytes : List ℕ) (reply : Reply) (h : History) (x : LogItem) (left : List LogItem) → In t h → KnowsAt t (ClosingLock answer) bytes h → AnswersIn (asks_at t (ClosingLock answer) bytes) reply → MakesIn t.me (asks_at t (ClosingLock answer) bytes) reply (x ∷ left) → Steps t (ClosingLock answer) bytes reply h x left
   closing_lock answer bytes replies.Done h x left i k a ms = split _ x left ms (Steps t (ClosingLock answer) bytes replies.Done h) (λ legal.
       let did : LogItem = Did t.me (calls.Close 0) replies.Done in
       still_step t (ClosingLock answer) bytes replies.Done h did i refl tt tt (record { names = λ name. refl; files = λ f. refl }) (into t (Ended answer) bytes (with_item h did) (told_then t answer h did (within_inner t.me did refl) k)))

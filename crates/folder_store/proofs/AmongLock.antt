@@ -27,7 +27,8 @@ use Rattle.folder_store.specs.declared.put_phase.PutPhase.TheVariants.{Opening, 
 use Rattle.folder_store.specs.declared.put_phase.TheConstants.{LOCK_TRIES}
 use Rattle.folder_store.specs.PutPhases.{held}
 use Rattle.folder_store.proofs.AmongKnown.{Task, asked_for, lock, In, Holds, Tries, KnowsAt}
-use Rattle.folder_store.proofs.AmongSteps.{own_rules, asks_at, MakesIn, Steps, into, still_step, failed_now, fails}
+use Rattle.folder_store.proofs.PutMakes.{MakesIn}
+use Rattle.folder_store.proofs.AmongSteps.{own_rules, asks_at, Steps, into, still_step, failed_now, fails}
 use Rattle.folder_store.proofs.Keeping.{within_inner}
 use Rattle.folder_store.proofs.LockHeld.{trying_holds}
 use Rattle.folder_store.proofs.PutDisks.{same_self, own_slot}
@@ -57,7 +58,7 @@ module _ (t : Task) where
   tries_own : (again : ℕ) (h : History) (x : LogItem) (file count : ℕ) → (disk_of (with_item h x)).names (lock t) ≡ Some file → (disk_of (with_item h x)).slots t.me 0 ≡ Some file → count + again ≡ 63 → HasTried (with_item h x) t.me (asked_for t) file count → Tries t again (with_item h x)
   tries_own again h x file count named slot counted tried = record { file = file; named = named; slot = slot; count = count; counted = counted; tried = tried }
 
-  pub opening_lock : (bytes : List ℕ) (reply : Reply) (h : History) (x : LogItem) (left : List LogItem) → In t h → KnowsAt t OpeningLock bytes h → AnswersIn (asks_at t OpeningLock bytes) reply → MakesIn t (asks_at t OpeningLock bytes) reply (x ∷ left) → Steps t OpeningLock bytes reply h x left
+  pub opening_lock : (bytes : List ℕ) (reply : Reply) (h : History) (x : LogItem) (left : List LogItem) → In t h → KnowsAt t OpeningLock bytes h → AnswersIn (asks_at t OpeningLock bytes) reply → MakesIn t.me (asks_at t OpeningLock bytes) reply (x ∷ left) → Steps t OpeningLock bytes reply h x left
   opening_lock bytes replies.Done h x left i k a ms = split _ x left ms (Steps t OpeningLock bytes replies.Done h) (λ legal.
       let did : LogItem = Did t.me (calls.OpenNew 0 (lock t)) replies.Done in
       let h' : History = with_item h did in
@@ -81,7 +82,7 @@ module _ (t : Task) where
 
   -- ---- it is tried
 
-  pub locking : (again : ℕ) (bytes : List ℕ) (reply : Reply) (h : History) (x : LogItem) (left : List LogItem) → In t h → KnowsAt t (Locking again) bytes h → AnswersIn (asks_at t (Locking again) bytes) reply → MakesIn t (asks_at t (Locking again) bytes) reply (x ∷ left) → Steps t (Locking again) bytes reply h x left
+  pub locking : (again : ℕ) (bytes : List ℕ) (reply : Reply) (h : History) (x : LogItem) (left : List LogItem) → In t h → KnowsAt t (Locking again) bytes h → AnswersIn (asks_at t (Locking again) bytes) reply → MakesIn t.me (asks_at t (Locking again) bytes) reply (x ∷ left) → Steps t (Locking again) bytes reply h x left
   locking again bytes replies.Done h x left i k a ms = split _ x left ms (Steps t (Locking again) bytes replies.Done h) (λ legal.
       let did : LogItem = Did t.me (calls.TryLock 0) replies.Done in
       let h' : History = with_item h did in
@@ -117,7 +118,7 @@ module _ (t : Task) where
   locking again bytes replies.NoMemory h x left i k a ms = split _ x left ms.1 (Steps t (Locking again) bytes replies.NoMemory h) (fails t true (Locking again) bytes replies.NoMemory h i tt (λ h' e. into t (ClosingLock answers.NoMemory) bytes h' e))
   locking again bytes reply h x left i k a ms = absurd a
 
-  pub pausing : (again : ℕ) (bytes : List ℕ) (reply : Reply) (h : History) (x : LogItem) (left : List LogItem) → In t h → KnowsAt t (Pausing again) bytes h → AnswersIn (asks_at t (Pausing again) bytes) reply → MakesIn t (asks_at t (Pausing again) bytes) reply (x ∷ left) → Steps t (Pausing again) bytes reply h x left
+  pub pausing : (again : ℕ) (bytes : List ℕ) (reply : Reply) (h : History) (x : LogItem) (left : List LogItem) → In t h → KnowsAt t (Pausing again) bytes h → AnswersIn (asks_at t (Pausing again) bytes) reply → MakesIn t.me (asks_at t (Pausing again) bytes) reply (x ∷ left) → Steps t (Pausing again) bytes reply h x left
   pausing again bytes replies.Done h x left i k a ms = split _ x left ms (Steps t (Pausing again) bytes replies.Done h) (λ legal.
       let did : LogItem = Did t.me calls.Pause replies.Done in
       let tried = tries_own again h did k.1.file k.1.count (ap (λ (e : Disk). e.names (lock t)) (disk_then h did) ∙ k.1.named) (ap (λ (e : Disk). e.slots t.me 0) (disk_then h did) ∙ k.1.slot) k.1.counted (paused h k.1.file k.1.count k.1.tried) in

@@ -25,7 +25,8 @@ use Rattle.folder_store.specs.declared.put_phase.PutPhase.{PutPhase}
 use Rattle.folder_store.specs.declared.put_phase.PutPhase.TheVariants.{Opening, Measuring, Reading, ReadingFront, Leaving, OpeningLock, Evicting, Making, ClosingEntry, ClosingLock, Ended}
 use Rattle.folder_store.specs.PutPhases.{besides_in, too_long, measured, Judged, Fronted}
 use Rattle.folder_store.proofs.AmongKnown.{Task, asked_for, In, Opens, Holds, AtLook, IsNamed, Looks, Going, KnowsAt}
-use Rattle.folder_store.proofs.AmongSteps.{asks_at, MakesIn, Steps, into, still_step, holds_own, failed_now, fails}
+use Rattle.folder_store.proofs.PutMakes.{MakesIn}
+use Rattle.folder_store.proofs.AmongSteps.{asks_at, Steps, into, still_step, holds_own, failed_now, fails}
 use Rattle.folder_store.proofs.Finding.{whole_is}
 use Rattle.folder_store.proofs.Keeping.{Within, within_inner}
 use Rattle.folder_store.proofs.Opened.{opened_now, named_now, open_then, in_slot, seen_held}
@@ -59,7 +60,7 @@ module _ (t : Task) where
 
   -- ---- it is opened
 
-  pub opening : (look : Look) (bytes : List ℕ) (reply : Reply) (h : History) (x : LogItem) (left : List LogItem) → In t h → KnowsAt t (Opening look) bytes h → AnswersIn (asks_at t (Opening look) bytes) reply → MakesIn t (asks_at t (Opening look) bytes) reply (x ∷ left) → Steps t (Opening look) bytes reply h x left
+  pub opening : (look : Look) (bytes : List ℕ) (reply : Reply) (h : History) (x : LogItem) (left : List LogItem) → In t h → KnowsAt t (Opening look) bytes h → AnswersIn (asks_at t (Opening look) bytes) reply → MakesIn t.me (asks_at t (Opening look) bytes) reply (x ∷ left) → Steps t (Opening look) bytes reply h x left
   opening look bytes replies.Done h x left i k a ms = split _ x left ms (Steps t (Opening look) bytes replies.Done h) (λ legal.
       let did : LogItem = Did t.me (calls.OpenOld 1 entry_name) replies.Done in
       let h' : History = with_item h did in
@@ -99,7 +100,7 @@ module _ (t : Task) where
       by_test true = too_long_knows look at l
       by_test false = (item, at, (l, is))
 
-  pub measuring : (look : Look) (bytes : List ℕ) (reply : Reply) (h : History) (x : LogItem) (left : List LogItem) → In t h → KnowsAt t (Measuring look) bytes h → AnswersIn (asks_at t (Measuring look) bytes) reply → MakesIn t (asks_at t (Measuring look) bytes) reply (x ∷ left) → Steps t (Measuring look) bytes reply h x left
+  pub measuring : (look : Look) (bytes : List ℕ) (reply : Reply) (h : History) (x : LogItem) (left : List LogItem) → In t h → KnowsAt t (Measuring look) bytes h → AnswersIn (asks_at t (Measuring look) bytes) reply → MakesIn t.me (asks_at t (Measuring look) bytes) reply (x ∷ left) → Steps t (Measuring look) bytes reply h x left
   measuring look bytes (replies.Number n) h x left i k a ms = split _ x left ms (Steps t (Measuring look) bytes (replies.Number n) h) (λ legal.
       let did : LogItem = Did t.me (calls.Length 1) (replies.Number n) in
       let h' : History = with_item h did in
@@ -126,7 +127,7 @@ module _ (t : Task) where
   judged_knows First bytes h next item at l (inr refused) = into t Leaving bytes h item next refused.1
   judged_knows Second bytes h next item at l (inr refused) = fronted_knows l.0.bytes bytes l.0.bytes h next (λ driver f. f) (λ none. none) item at (entry_now h l) refused.1
 
-  pub reading : (look : Look) (n : ℕ) (bytes : List ℕ) (reply : Reply) (h : History) (x : LogItem) (left : List LogItem) → In t h → KnowsAt t (Reading look n) bytes h → AnswersIn (asks_at t (Reading look n) bytes) reply → MakesIn t (asks_at t (Reading look n) bytes) reply (x ∷ left) → Steps t (Reading look n) bytes reply h x left
+  pub reading : (look : Look) (n : ℕ) (bytes : List ℕ) (reply : Reply) (h : History) (x : LogItem) (left : List LogItem) → In t h → KnowsAt t (Reading look n) bytes h → AnswersIn (asks_at t (Reading look n) bytes) reply → MakesIn t.me (asks_at t (Reading look n) bytes) reply (x ∷ left) → Steps t (Reading look n) bytes reply h x left
   reading look n bytes (replies.Got got) h x left i k a ms = split _ x left ms (Steps t (Reading look n) bytes (replies.Got got) h) (λ legal.
       let did : LogItem = Did t.me (calls.ReadAt 1 0 n) (replies.Got got) in
       let h' : History = with_item h did in
@@ -141,7 +142,7 @@ module _ (t : Task) where
   reading look n bytes replies.NoMemory h x left i k a ms = split _ x left ms.1 (Steps t (Reading look n) bytes replies.NoMemory h) (fails t true (Reading look n) bytes replies.NoMemory h i tt (λ h' e. into t (ClosingEntry answers.NoMemory (besides_in look)) bytes h' e))
   reading look n bytes reply h x left i k a ms = absurd a
 
-  pub reading_front : (bytes : List ℕ) (reply : Reply) (h : History) (x : LogItem) (left : List LogItem) → In t h → KnowsAt t ReadingFront bytes h → AnswersIn (asks_at t ReadingFront bytes) reply → MakesIn t (asks_at t ReadingFront bytes) reply (x ∷ left) → Steps t ReadingFront bytes reply h x left
+  pub reading_front : (bytes : List ℕ) (reply : Reply) (h : History) (x : LogItem) (left : List LogItem) → In t h → KnowsAt t ReadingFront bytes h → AnswersIn (asks_at t ReadingFront bytes) reply → MakesIn t.me (asks_at t ReadingFront bytes) reply (x ∷ left) → Steps t ReadingFront bytes reply h x left
   reading_front bytes (replies.Got got) h x left i k a ms = split _ x left ms (Steps t ReadingFront bytes (replies.Got got) h) (λ legal.
       let did : LogItem = Did t.me (calls.ReadAt 1 0 522) (replies.Got got) in
       let h' : History = with_item h did in
@@ -155,7 +156,7 @@ module _ (t : Task) where
   reading_front bytes replies.NoMemory h x left i k a ms = split _ x left ms.1 (Steps t ReadingFront bytes replies.NoMemory h) (fails t true ReadingFront bytes replies.NoMemory h i tt (λ h' e. into t (ClosingEntry answers.NoMemory Lock) bytes h' e))
   reading_front bytes reply h x left i k a ms = absurd a
 
-  pub leaving : (bytes : List ℕ) (reply : Reply) (h : History) (x : LogItem) (left : List LogItem) → In t h → KnowsAt t Leaving bytes h → AnswersIn (asks_at t Leaving bytes) reply → MakesIn t (asks_at t Leaving bytes) reply (x ∷ left) → Steps t Leaving bytes reply h x left
+  pub leaving : (bytes : List ℕ) (reply : Reply) (h : History) (x : LogItem) (left : List LogItem) → In t h → KnowsAt t Leaving bytes h → AnswersIn (asks_at t Leaving bytes) reply → MakesIn t.me (asks_at t Leaving bytes) reply (x ∷ left) → Steps t Leaving bytes reply h x left
   leaving bytes replies.Done h x left i k a ms = split _ x left ms (Steps t Leaving bytes replies.Done h) (λ legal.
       let did : LogItem = Did t.me (calls.Close 1) replies.Done in
       still_step t Leaving bytes replies.Done h did i refl tt tt (record { names = λ name. refl; files = λ f. refl }) (into t OpeningLock bytes (with_item h did) k))

@@ -7,13 +7,11 @@ use Rattle.file_log.specs.declared.item.LogItem.TheVariants.{Failed}
 use Rattle.file_log.specs.declared.reply.Reply.{Reply}
 use Rattle.file_log.specs.Disk.{Disk}
 use Rattle.file_log.specs.Effect.{applied}
-use Rattle.file_log.specs.Exchange.{Makes}
 use Rattle.file_log.specs.Log.{History, seat_of}
 use Rattle.file_log.specs.Operation.{IsStill}
 use Rattle.file_log.specs.State.{disk_of}
 use Rattle.file_log.proofs.All.{seat_self}
 use Rattle.files_api.specs.declared.machine.Step.{Step}
-use Rattle.files_api.specs.declared.machine.Step.TheVariants as steps
 use Rattle.folder_rules.specs.Changes.{with_item}
 use Rattle.folder_rules.specs.Operations.{is_bound}
 use Rattle.folder_rules.specs.Rules.{AnswersAreEarned, Conforms, KeepsRules}
@@ -40,10 +38,6 @@ module _ (t : Task) where
   -- what it asks in a phase
   abbrev pub asks_at : PutPhase → List ℕ → Step
   asks_at phase bytes = asks_put_in t.root t.key bytes phase
-
-  abbrev pub MakesIn : Step → Reply → List LogItem → Type 0
-  MakesIn (steps.Ask call) reply made = Makes t.me true call reply made
-  MakesIn (steps.Done answer) reply made = ⊥
 
   -- what is known in whichever phase follows on the reply
   abbrev pub Follows : PutPhase → List ℕ → Reply → History → Type 0

@@ -20,7 +20,8 @@ use Rattle.folder_store.specs.Put.{NamesFront}
 use Rattle.folder_store.specs.PutPhases.{closing}
 use Rattle.folder_store.proofs.AmongChanges.{changed}
 use Rattle.folder_store.proofs.AmongKnown.{Task, In, Going, HasWritten, KnowsAt}
-use Rattle.folder_store.proofs.AmongSteps.{asks_at, MakesIn, Follows, into, closing_knows, failed_now, fails}
+use Rattle.folder_store.proofs.PutMakes.{MakesIn}
+use Rattle.folder_store.proofs.AmongSteps.{asks_at, Follows, into, closing_knows, failed_now, fails}
 use Rattle.folder_store.proofs.Keeping.{CanFollow, Within, within_inner}
 use Rattle.folder_store.proofs.PutSteps.{AnswersIn}
 use Rattle.folder_store.proofs.PutWrites.{written_end}
@@ -37,7 +38,7 @@ module _ (t : Task) where
   abbrev pub Doing : PutPhase → List ℕ → Reply → List LogItem → History → Type 0
   Doing phase bytes reply [] h = Follows t phase bytes reply h
   Doing (Writing also) bytes reply (x ∷ made) h = Going t h × ((done : List ℕ) × HasWritten t h done × Writes reply done (x ∷ made))
-  Doing phase bytes reply (x ∷ made) h = KnowsAt t phase bytes h × AnswersIn (asks_at t phase bytes) reply × MakesIn t (asks_at t phase bytes) reply (x ∷ made)
+  Doing phase bytes reply (x ∷ made) h = KnowsAt t phase bytes h × AnswersIn (asks_at t phase bytes) reply × MakesIn t.me (asks_at t phase bytes) reply (x ∷ made)
 
   -- an own item keeps the rules, and the call goes on
   pub record Moved (phase : PutPhase) (bytes : List ℕ) (reply : Reply) (h : History) (x : LogItem) (made : List LogItem) : Type 0 where
@@ -124,14 +125,14 @@ module _ (t : Task) where
   item_bytes : nat_eq (length t.item) 0 ≡ false → (made : List LogItem) → made ≡ cond (nat_eq (length t.item) 0) (Did t.me (calls.WriteAt 3 0 t.item) replies.Done ∷ []) (byte_items t.me 3 0 t.item) → byte_items t.me 3 0 t.item ≡ made
   item_bytes filled made e = sym (e ∙ ap (λ (b : Bool). cond b (Did t.me (calls.WriteAt 3 0 t.item) replies.Done ∷ []) (byte_items t.me 3 0 t.item)) filled)
 
-  starts : (also : Bool) (reply : Reply) (made : List LogItem) (h : History) → nat_eq (length t.item) 0 ≡ false → Going t h → HasWritten t h [] → AnswersIn (asks_at t (Writing also) t.item) reply → MakesIn t (asks_at t (Writing also) t.item) reply made → Doing (Writing also) t.item reply made h
+  starts : (also : Bool) (reply : Reply) (made : List LogItem) (h : History) → nat_eq (length t.item) 0 ≡ false → Going t h → HasWritten t h [] → AnswersIn (asks_at t (Writing also) t.item) reply → MakesIn t.me (asks_at t (Writing also) t.item) reply made → Doing (Writing also) t.item reply made h
   starts also replies.Done made h filled g w a ms = subst (λ (l : List LogItem). Doing (Writing also) t.item replies.Done l h) (item_bytes filled made ms) (done_next also t.item h [] t.item g w refl)
   starts also replies.Failed made h filled g w a ms = subst (λ (l : List LogItem). Doing (Writing also) t.item replies.Failed l h) (sym ms.1) (failed_next also t.item h [] (take ms.0 t.item) g w)
   starts also replies.NoMemory made h filled g w a ms = subst (λ (l : List LogItem). Doing (Writing also) t.item replies.NoMemory l h) (sym ms.1) (refused_next also t.item h [] (take ms.0 t.item) g w)
   starts also reply made h filled g w a ms = absurd a
 
-  pub writing_starts : (also : Bool) (bytes : List ℕ) (reply : Reply) (made : List LogItem) (h : History) → nat_eq (length t.item) 0 ≡ false → KnowsAt t (Writing also) bytes h → AnswersIn (asks_at t (Writing also) bytes) reply → MakesIn t (asks_at t (Writing also) bytes) reply made → Doing (Writing also) bytes reply made h
+  pub writing_starts : (also : Bool) (bytes : List ℕ) (reply : Reply) (made : List LogItem) (h : History) → nat_eq (length t.item) 0 ≡ false → KnowsAt t (Writing also) bytes h → AnswersIn (asks_at t (Writing also) bytes) reply → MakesIn t.me (asks_at t (Writing also) bytes) reply made → Doing (Writing also) bytes reply made h
   writing_starts also bytes reply made h filled k a ms =
-      let at_item : MakesIn t (asks_at t (Writing also) t.item) reply made = subst (λ (b : List ℕ). MakesIn t (asks_at t (Writing also) b) reply made) k.0 ms in
+      let at_item : MakesIn t.me (asks_at t (Writing also) t.item) reply made = subst (λ (b : List ℕ). MakesIn t.me (asks_at t (Writing also) b) reply made) k.0 ms in
       let fits : AnswersIn (asks_at t (Writing also) t.item) reply = subst (λ (b : List ℕ). AnswersIn (asks_at t (Writing also) b) reply) k.0 a in
       subst (λ (b : List ℕ). Doing (Writing also) b reply made h) (sym k.0) (starts also reply made h filled k.1 k.2 fits at_item)

@@ -81,7 +81,7 @@ module _ (me : Who) where
     pub order : InOrder h
     pub idle : (course_of me h.log).inside ≡ false
 
-  course_then : (h : History) (x : LogItem) → course_of me (with_item h x).log ≡ course_after me (course_of me h.log) x
+  pub course_then : (h : History) (x : LogItem) → course_of me (with_item h x).log ≡ course_after me (course_of me h.log) x
   course_then h x = fold-append (course_after me) (record { inside = false; hurt = false }) h.log (x ∷ [])
 
   pub out_other : (h : History) (x : LogItem) → IsOut h → is_own me x ≡ false → CanFollow h x → KeepsRules h x → IsOut (with_item h x)

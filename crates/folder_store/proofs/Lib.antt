@@ -5,9 +5,11 @@ pub mod Still
 pub mod Outcome
 pub mod Finding
 pub mod Keeping
+pub mod Stronger
 pub mod Opened
 pub mod Since
 pub mod GetKnown
+pub mod GetAlong
 pub mod GetKeeps
 pub mod WholeLookup
 pub mod PutCalls
@@ -30,6 +32,7 @@ pub mod AmongLooks
 pub mod AmongLock
 pub mod AmongChanges
 pub mod AmongWrites
+pub mod PutAlong
 pub mod PutKeeps
 pub mod LockStages
 pub mod LockTries

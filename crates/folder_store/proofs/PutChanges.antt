@@ -25,7 +25,8 @@ use Rattle.folder_store.specs.PutPhases.{closing}
 use Rattle.folder_store.proofs.PutDisks.{same_bytes, making_apart, making_has, writing_apart, writing_has, renaming_is}
 use Rattle.folder_store.proofs.PutKnown.{Job, Place, step, put_item_on, Base, Going, HasWritten, Replaced, KnowsAt, Passes, base_on, going_on, answered_on}
 use Rattle.folder_store.proofs.PutRules.{whole_then, whole_still, stays_free, quiet, changed}
-use Rattle.folder_store.proofs.PutSteps.{AnswersIn, split, asks_at, MakesIn, Steps, into, closing_knows, going_excused, fails}
+use Rattle.folder_store.proofs.PutMakes.{MakesIn}
+use Rattle.folder_store.proofs.PutSteps.{AnswersIn, split, asks_at, Steps, into, closing_knows, going_excused, fails}
 
 module _ (j : Job) where
   abbrev entry_name : Name
@@ -36,7 +37,7 @@ module _ (j : Job) where
 
   -- ---- the eviction
 
-  pub evicting : (driver : DriverKeys) (bytes : List ℕ) (reply : Reply) (p : Place) (x : LogItem) (left : List LogItem) → Base j p → KnowsAt j (Evicting driver) bytes p → AnswersIn (asks_at j (Evicting driver) bytes) reply → MakesIn j (asks_at j (Evicting driver) bytes) reply (x ∷ left) → Steps j (Evicting driver) bytes reply p x left
+  pub evicting : (driver : DriverKeys) (bytes : List ℕ) (reply : Reply) (p : Place) (x : LogItem) (left : List LogItem) → Base j p → KnowsAt j (Evicting driver) bytes p → AnswersIn (asks_at j (Evicting driver) bytes) reply → MakesIn j.me (asks_at j (Evicting driver) bytes) reply (x ∷ left) → Steps j (Evicting driver) bytes reply p x left
   evicting driver bytes replies.Done p x left b k a ms = split _ x left ms (Steps j (Evicting driver) bytes replies.Done p) (λ legal.
       let evict : LogItem = Evict j.me (folder_of j.root) driver j.key in
       let p' : Place = step j.me p evict in
@@ -66,7 +67,7 @@ module _ (j : Job) where
 
   -- ---- the temporary file
 
-  pub making : (entry : Bool) (bytes : List ℕ) (reply : Reply) (p : Place) (x : LogItem) (left : List LogItem) → Base j p → KnowsAt j (Making entry) bytes p → AnswersIn (asks_at j (Making entry) bytes) reply → MakesIn j (asks_at j (Making entry) bytes) reply (x ∷ left) → Steps j (Making entry) bytes reply p x left
+  pub making : (entry : Bool) (bytes : List ℕ) (reply : Reply) (p : Place) (x : LogItem) (left : List LogItem) → Base j p → KnowsAt j (Making entry) bytes p → AnswersIn (asks_at j (Making entry) bytes) reply → MakesIn j.me (asks_at j (Making entry) bytes) reply (x ∷ left) → Steps j (Making entry) bytes reply p x left
   making entry bytes replies.Done p x left b k a ms = split _ x left ms (Steps j (Making entry) bytes replies.Done p) (λ legal.
       let did : LogItem = Did j.me (calls.OpenNew 3 temp_name) replies.Done in
       let c = changed j p did b (seat_self j.me) refl refl refl tt tt (making_apart j.me j.root j.key p.state.disk b.tidy) in
@@ -77,7 +78,7 @@ module _ (j : Job) where
   making entry bytes replies.NoMemory p x left b k a ms = split _ x left ms.1 (Steps j (Making entry) bytes replies.NoMemory p) (fails j true (Making entry) bytes replies.NoMemory p b (going_excused j p k.1) (λ p' e. into j (closing answers.NoMemory entry Lock) bytes p' (closing_knows j answers.NoMemory entry Lock bytes p' e)))
   making entry bytes reply p x left b k a ms = absurd a
 
-  pub cutting : (entry : Bool) (bytes : List ℕ) (reply : Reply) (p : Place) (x : LogItem) (left : List LogItem) → Base j p → KnowsAt j (Cutting entry) bytes p → AnswersIn (asks_at j (Cutting entry) bytes) reply → MakesIn j (asks_at j (Cutting entry) bytes) reply (x ∷ left) → Steps j (Cutting entry) bytes reply p x left
+  pub cutting : (entry : Bool) (bytes : List ℕ) (reply : Reply) (p : Place) (x : LogItem) (left : List LogItem) → Base j p → KnowsAt j (Cutting entry) bytes p → AnswersIn (asks_at j (Cutting entry) bytes) reply → MakesIn j.me (asks_at j (Cutting entry) bytes) reply (x ∷ left) → Steps j (Cutting entry) bytes reply p x left
   cutting entry bytes replies.Done p x left b k a ms = split _ x left ms (Steps j (Cutting entry) bytes replies.Done p) (λ legal.
       let did : LogItem = Did j.me (calls.Cut 3 0) replies.Done in
       let c = changed j p did b (seat_self j.me) refl refl refl tt tt (writing_apart j.me j.root j.key p.state.disk k.2.0 (take 0) b.tidy k.2.1) in
@@ -88,7 +89,7 @@ module _ (j : Job) where
   cutting entry bytes replies.NoMemory p x left b k a ms = split _ x left ms.1 (Steps j (Cutting entry) bytes replies.NoMemory p) (fails j true (Cutting entry) bytes replies.NoMemory p b (going_excused j p k.1) (λ p' e. into j (closing answers.NoMemory entry LockAndTemp) bytes p' (closing_knows j answers.NoMemory entry LockAndTemp bytes p' e)))
   cutting entry bytes reply p x left b k a ms = absurd a
 
-  pub renaming : (entry : Bool) (bytes : List ℕ) (reply : Reply) (p : Place) (x : LogItem) (left : List LogItem) → Base j p → KnowsAt j (Renaming entry) bytes p → AnswersIn (asks_at j (Renaming entry) bytes) reply → MakesIn j (asks_at j (Renaming entry) bytes) reply (x ∷ left) → Steps j (Renaming entry) bytes reply p x left
+  pub renaming : (entry : Bool) (bytes : List ℕ) (reply : Reply) (p : Place) (x : LogItem) (left : List LogItem) → Base j p → KnowsAt j (Renaming entry) bytes p → AnswersIn (asks_at j (Renaming entry) bytes) reply → MakesIn j.me (asks_at j (Renaming entry) bytes) reply (x ∷ left) → Steps j (Renaming entry) bytes reply p x left
   renaming entry bytes replies.Done p x left b k a ms = split _ x left ms (Steps j (Renaming entry) bytes replies.Done p) (λ legal.
       let did : LogItem = Did j.me (calls.Rename temp_name entry_name) replies.Done in
       let p' : Place = step j.me p did in
@@ -111,7 +112,7 @@ module _ (j : Job) where
 
   -- ---- the end
 
-  pub closing_entry : (answer : Answer) (besides : Besides) (bytes : List ℕ) (reply : Reply) (p : Place) (x : LogItem) (left : List LogItem) → Base j p → KnowsAt j (ClosingEntry answer besides) bytes p → AnswersIn (asks_at j (ClosingEntry answer besides) bytes) reply → MakesIn j (asks_at j (ClosingEntry answer besides) bytes) reply (x ∷ left) → Steps j (ClosingEntry answer besides) bytes reply p x left
+  pub closing_entry : (answer : Answer) (besides : Besides) (bytes : List ℕ) (reply : Reply) (p : Place) (x : LogItem) (left : List LogItem) → Base j p → KnowsAt j (ClosingEntry answer besides) bytes p → AnswersIn (asks_at j (ClosingEntry answer besides) bytes) reply → MakesIn j.me (asks_at j (ClosingEntry answer besides) bytes) reply (x ∷ left) → Steps j (ClosingEntry answer besides) bytes reply p x left
   closing_entry answer besides bytes replies.Done p x left b k a ms = split _ x left ms (Steps j (ClosingEntry answer besides) bytes replies.Done p) (λ legal.
       let did : LogItem = Did j.me (calls.Close 1) replies.Done in
       let q = quiet j p did b (seat_self j.me) refl refl refl tt tt (record { names = λ name. refl; files = λ f. refl }) in
@@ -119,7 +120,7 @@ module _ (j : Job) where
       record { right = q.right; base = q.base; last = refl; follows = into j (closing answer false besides) bytes p' (closing_knows j answer false besides bytes p' (answered_on j answer p p' q.rests k)) })
   closing_entry answer besides bytes reply p x left b k a ms = absurd a
 
-  pub closing_temp : (answer : Answer) (bytes : List ℕ) (reply : Reply) (p : Place) (x : LogItem) (left : List LogItem) → Base j p → KnowsAt j (ClosingTemp answer) bytes p → AnswersIn (asks_at j (ClosingTemp answer) bytes) reply → MakesIn j (asks_at j (ClosingTemp answer) bytes) reply (x ∷ left) → Steps j (ClosingTemp answer) bytes reply p x left
+  pub closing_temp : (answer : Answer) (bytes : List ℕ) (reply : Reply) (p : Place) (x : LogItem) (left : List LogItem) → Base j p → KnowsAt j (ClosingTemp answer) bytes p → AnswersIn (asks_at j (ClosingTemp answer) bytes) reply → MakesIn j.me (asks_at j (ClosingTemp answer) bytes) reply (x ∷ left) → Steps j (ClosingTemp answer) bytes reply p x left
   closing_temp answer bytes replies.Done p x left b k a ms = split _ x left ms (Steps j (ClosingTemp answer) bytes replies.Done p) (λ legal.
       let did : LogItem = Did j.me (calls.Close 3) replies.Done in
       let q = quiet j p did b (seat_self j.me) refl refl refl tt tt (record { names = λ name. refl; files = λ f. refl }) in
@@ -127,7 +128,7 @@ module _ (j : Job) where
       record { right = q.right; base = q.base; last = refl; follows = into j (ClosingLock answer) bytes p' (answered_on j answer p p' q.rests k) })
   closing_temp answer bytes reply p x left b k a ms = absurd a
 
-  pub closing_lock : (answer : Answer) (bytes : List ℕ) (reply : Reply) (p : Place) (x : LogItem) (left : List LogItem) → Base j p → KnowsAt j (ClosingLock answer) bytes p → AnswersIn (asks_at j (ClosingLock answer) bytes) reply → MakesIn j (asks_at j (ClosingLock answer) bytes) reply (x ∷ left) → Steps j (ClosingLock answer) bytes reply p x left
+  pub closing_lock : (answer : Answer) (bytes : List ℕ) (reply : Reply) (p : Place) (x : LogItem) (left : List LogItem) → Base j p → KnowsAt j (ClosingLock answer) bytes p → AnswersIn (asks_at j (ClosingLock answer) bytes) reply → MakesIn j.me (asks_at j (ClosingLock answer) bytes) reply (x ∷ left) → Steps j (ClosingLock answer) bytes reply p x left
   closing_lock answer bytes replies.Done p x left b k a ms = split _ x left ms (Steps j (ClosingLock answer) bytes replies.Done p) (λ legal.
       let did : LogItem = Did j.me (calls.Close 0) replies.Done in
       let q = quiet j p did b (seat_self j.me) refl refl refl tt tt (record { names = λ name. refl; files = λ f. refl }) in

@@ -22,7 +22,8 @@ use Rattle.folder_store.proofs.LockDisks.{opening_alone, alone_elsewhere, alone_
 use Rattle.folder_store.proofs.PutDisks.{own_slot}
 use Rattle.folder_store.proofs.PutKnown.{Job, Place, step, Base, Ready, HasLock, KnowsAt, rests_goes, ready_on}
 use Rattle.folder_store.proofs.PutRules.{quiet, changed_by}
-use Rattle.folder_store.proofs.PutSteps.{AnswersIn, split, asks_at, MakesIn, Steps, into, ready_excused, fails}
+use Rattle.folder_store.proofs.PutMakes.{MakesIn}
+use Rattle.folder_store.proofs.PutSteps.{AnswersIn, split, asks_at, Steps, into, ready_excused, fails}
 
 -- taking a lock changes no name and no file
 pub locked_still : (d : Disk) (by : Who) (slot : ℕ) (file : Option ℕ) → IsStill d (locked d by slot file)
@@ -33,7 +34,7 @@ module _ (j : Job) where
   abbrev lock : Name
   lock = lock_name j.root j.key
 
-  pub opening_lock : (bytes : List ℕ) (reply : Reply) (p : Place) (x : LogItem) (left : List LogItem) → Base j p → KnowsAt j OpeningLock bytes p → AnswersIn (asks_at j OpeningLock bytes) reply → MakesIn j (asks_at j OpeningLock bytes) reply (x ∷ left) → Steps j OpeningLock bytes reply p x left
+  pub opening_lock : (bytes : List ℕ) (reply : Reply) (p : Place) (x : LogItem) (left : List LogItem) → Base j p → KnowsAt j OpeningLock bytes p → AnswersIn (asks_at j OpeningLock bytes) reply → MakesIn j.me (asks_at j OpeningLock bytes) reply (x ∷ left) → Steps j OpeningLock bytes reply p x left
   opening_lock bytes replies.Done p x left b k a ms = split _ x left ms (Steps j OpeningLock bytes replies.Done p) (λ legal.
       let did : LogItem = Did j.me (calls.OpenNew 0 lock) replies.Done in
       let p' : Place = step j.me p did in
@@ -52,7 +53,7 @@ module _ (j : Job) where
       let free : is_slot_held p.state.disk j.me 0 ≡ false = ap (λ (file : Option ℕ). is_held j.me (lock_in p.state.disk file)) (has alone) ∙ b.free alone in
       false≢true (sym free ∙ stuck)
 
-  pub locking : (again : ℕ) (bytes : List ℕ) (reply : Reply) (p : Place) (x : LogItem) (left : List LogItem) → Base j p → KnowsAt j (Locking again) bytes p → AnswersIn (asks_at j (Locking again) bytes) reply → MakesIn j (asks_at j (Locking again) bytes) reply (x ∷ left) → Steps j (Locking again) bytes reply p x left
+  pub locking : (again : ℕ) (bytes : List ℕ) (reply : Reply) (p : Place) (x : LogItem) (left : List LogItem) → Base j p → KnowsAt j (Locking again) bytes p → AnswersIn (asks_at j (Locking again) bytes) reply → MakesIn j.me (asks_at j (Locking again) bytes) reply (x ∷ left) → Steps j (Locking again) bytes reply p x left
   locking again bytes replies.Done p x left b k a ms = split _ x left ms (Steps j (Locking again) bytes replies.Done p) (λ legal.
       let did : LogItem = Did j.me (calls.TryLock 0) replies.Done in
       let q = quiet j p did b (seat_self j.me) refl refl refl tt tt (locked_still p.state.disk j.me 0 (p.state.disk.slots j.me 0)) in
@@ -72,7 +73,7 @@ module _ (j : Job) where
   locking again bytes replies.NoMemory p x left b k a ms = split _ x left ms.1 (Steps j (Locking again) bytes replies.NoMemory p) (fails j true (Locking again) bytes replies.NoMemory p b (ready_excused j p k.1) (λ p' e. into j (ClosingLock answers.NoMemory) bytes p' e))
   locking again bytes reply p x left b k a ms = absurd a
 
-  pub pausing : (again : ℕ) (bytes : List ℕ) (reply : Reply) (p : Place) (x : LogItem) (left : List LogItem) → Base j p → KnowsAt j (Pausing again) bytes p → AnswersIn (asks_at j (Pausing again) bytes) reply → MakesIn j (asks_at j (Pausing again) bytes) reply (x ∷ left) → Steps j (Pausing again) bytes reply p x left
+  pub pausing : (again : ℕ) (bytes : List ℕ) (reply : Reply) (p : Place) (x : LogItem) (left : List LogItem) → Base j p → KnowsAt j (Pausing again) bytes p → AnswersIn (asks_at j (Pausing again) bytes) reply → MakesIn j.me (asks_at j (Pausing again) bytes) reply (x ∷ left) → Steps j (Pausing again) bytes reply p x left
   pausing again bytes replies.Done p x left b k a ms = split _ x left ms (Steps j (Pausing again) bytes replies.Done p) (λ legal.
       let did : LogItem = Did j.me calls.Pause replies.Done in
       let q = quiet j p did b (seat_self j.me) refl refl refl tt tt (record { names = λ name. refl; files = λ f. refl }) in

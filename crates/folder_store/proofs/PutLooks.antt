@@ -1,7 +1,7 @@
 -- The calls of a put that look at the entry, and what they find.
 use Rattle.std.proofs.Common.{◌≡◌, ◌<◌, ◌+◌, ◌-◌, inl, inr, ℕ, Bool, true, false, cond, ltb, List, ◌∷◌, ◌++◌, length, take, drop, Option, Some, None, IsSome, refl, sym, ap, ◌∙◌, subst, append_assoc, arith}
 use Rattle.std.specs.Prelude.{IsSomeAnd}
-use Rattle.std.proofs.Math.Seq.{take-length, take-append-add}
+use Rattle.std.proofs.Math.Seq.{take-append-add}
 use Rattle.std.proofs.lemmas.Bool.{false≢true, ltb-true}
 use Rattle.std.proofs.lemmas.List.{take-append-drop}
 use Rattle.cache_types.specs.Driver.{DriverKeys, blob_of, IsDriver, Fronts, HasNoFront}
@@ -26,10 +26,12 @@ use Rattle.folder_store.specs.declared.put_phase.PutPhase.TheVariants.{Opening, 
 use Rattle.folder_rules.specs.Holds.{FileReads}
 use Rattle.folder_store.specs.Put.{TellsReplaced}
 use Rattle.folder_store.specs.PutPhases.{besides_in, too_long, measured, Judged, Fronted}
+use Rattle.folder_store.proofs.Finding.{whole_is}
 use Rattle.folder_store.proofs.PutDisks.{same_bytes, own_slot}
 use Rattle.folder_store.proofs.PutKnown.{Job, Place, step, Base, Looking, Ready, Looks, Lacks, Going, Excused, HasEntry, KnowsAt, rests_goes, looking_on, ready_on, looks_on, old}
 use Rattle.folder_store.proofs.PutRules.{quiet}
-use Rattle.folder_store.proofs.PutSteps.{AnswersIn, split, asks_at, MakesIn, Steps, into, fails}
+use Rattle.folder_store.proofs.PutMakes.{MakesIn}
+use Rattle.folder_store.proofs.PutSteps.{AnswersIn, split, asks_at, Steps, into, fails}
 
 some_of : (o : Option ℕ) → IsSome o → (f : ℕ) × (o ≡ Some f)
 some_of None h = absurd (false≢true h)
@@ -55,10 +57,6 @@ fronts_part whole d f =
       rest = take n f.rest;
       bytes_are = ap (take 522) f.bytes_are ∙ ap (λ (k : ℕ). take k (blob_of d ++ f.rest)) all ∙ take-append-add (blob_of d) f.rest n;
     }
-
--- all bytes of a file
-whole_is : (bytes whole : List ℕ) (n : ℕ) → n ≡ length whole → bytes ≡ take n (drop 0 whole) → bytes ≡ whole
-whole_is bytes whole n e f = f ∙ ap (λ (k : ℕ). take k whole) e ∙ take-length whole
 
 module _ (j : Job) where
   abbrev entry_name : Name
@@ -104,7 +102,7 @@ module _ (j : Job) where
     told = λ bytes driver is' fronts. let same : whole ≡ bytes = same_bytes whole bytes (sym is ∙ is') in absurd (none driver (subst (λ (b : List ℕ). Fronts b driver) (sym same) fronts));
   }
 
-  pub opening : (look : Look) (bytes : List ℕ) (reply : Reply) (p : Place) (x : LogItem) (left : List LogItem) → Base j p → KnowsAt j (Opening look) bytes p → AnswersIn (asks_at j (Opening look) bytes) reply → MakesIn j (asks_at j (Opening look) bytes) reply (x ∷ left) → Steps j (Opening look) bytes reply p x left
+  pub opening : (look : Look) (bytes : List ℕ) (reply : Reply) (p : Place) (x : LogItem) (left : List LogItem) → Base j p → KnowsAt j (Opening look) bytes p → AnswersIn (asks_at j (Opening look) bytes) reply → MakesIn j.me (asks_at j (Opening look) bytes) reply (x ∷ left) → Steps j (Opening look) bytes reply p x left
   opening look bytes replies.Done p x left b k a ms = split _ x left ms (Steps j (Opening look) bytes replies.Done p) (λ legal.
       let did : LogItem = Did j.me (calls.OpenOld 1 entry_name) replies.Done in
       let q = quiet j p did b (seat_self j.me) refl refl refl tt tt (record { names = λ name. refl; files = λ f. refl }) in
@@ -152,7 +150,7 @@ module _ (j : Job) where
       by_test true long = too_long_knows look l (ltb-true MAX_ITEM n long)
       by_test false short = (item, l, (whole, h, is))
 
-  pub measuring : (look : Look) (bytes : List ℕ) (reply : Reply) (p : Place) (x : LogItem) (left : List LogItem) → IsDriver j.driver → Base j p → KnowsAt j (Measuring look) bytes p → AnswersIn (asks_at j (Measuring look) bytes) reply → MakesIn j (asks_at j (Measuring look) bytes) reply (x ∷ left) → Steps j (Measuring look) bytes reply p x left
+  pub measuring : (look : Look) (bytes : List ℕ) (reply : Reply) (p : Place) (x : LogItem) (left : List LogItem) → IsDriver j.driver → Base j p → KnowsAt j (Measuring look) bytes p → AnswersIn (asks_at j (Measuring look) bytes) reply → MakesIn j.me (asks_at j (Measuring look) bytes) reply (x ∷ left) → Steps j (Measuring look) bytes reply p x left
   measuring look bytes (replies.Number n) p x left fits b k a ms = split _ x left ms (Steps j (Measuring look) bytes (replies.Number n) p) (λ legal.
       let did : LogItem = Did j.me (calls.Length 1) (replies.Number n) in
       let q = quiet j p did b (seat_self j.me) refl refl refl tt tt (record { names = λ name. refl; files = λ f. refl }) in
@@ -185,7 +183,7 @@ module _ (j : Job) where
   file_got : (p : Place) (whole got : List ℕ) (n : ℕ) → HasEntry j p whole → IsSomeAnd (bytes_at p.state.disk j.me 1) (λ w. got ≡ take n (drop 0 w)) → got ≡ take n (drop 0 whole)
   file_got p whole got n h is = subst (λ (o : Option (List ℕ)). IsSomeAnd o (λ w. got ≡ take n (drop 0 w))) (in_slot p whole h) is
 
-  pub reading : (look : Look) (n : ℕ) (bytes : List ℕ) (reply : Reply) (p : Place) (x : LogItem) (left : List LogItem) → Base j p → KnowsAt j (Reading look n) bytes p → AnswersIn (asks_at j (Reading look n) bytes) reply → MakesIn j (asks_at j (Reading look n) bytes) reply (x ∷ left) → Steps j (Reading look n) bytes reply p x left
+  pub reading : (look : Look) (n : ℕ) (bytes : List ℕ) (reply : Reply) (p : Place) (x : LogItem) (left : List LogItem) → Base j p → KnowsAt j (Reading look n) bytes p → AnswersIn (asks_at j (Reading look n) bytes) reply → MakesIn j.me (asks_at j (Reading look n) bytes) reply (x ∷ left) → Steps j (Reading look n) bytes reply p x left
   reading look n bytes (replies.Got got) p x left b k a ms = split _ x left ms (Steps j (Reading look n) bytes (replies.Got got) p) (λ legal.
       let did : LogItem = Did j.me (calls.ReadAt 1 0 n) (replies.Got got) in
       let q = quiet j p did b (seat_self j.me) refl refl refl tt tt (record { names = λ name. refl; files = λ f. refl }) in
@@ -198,7 +196,7 @@ module _ (j : Job) where
   reading look n bytes replies.NoMemory p x left b k a ms = split _ x left ms.1 (Steps j (Reading look n) bytes replies.NoMemory p) (fails j true (Reading look n) bytes replies.NoMemory p b (looks_excused look p k.1) (λ p' e. into j (ClosingEntry answers.NoMemory (besides_in look)) bytes p' e))
   reading look n bytes reply p x left b k a ms = absurd a
 
-  pub reading_front : (bytes : List ℕ) (reply : Reply) (p : Place) (x : LogItem) (left : List LogItem) → Base j p → KnowsAt j ReadingFront bytes p → AnswersIn (asks_at j ReadingFront bytes) reply → MakesIn j (asks_at j ReadingFront bytes) reply (x ∷ left) → Steps j ReadingFront bytes reply p x left
+  pub reading_front : (bytes : List ℕ) (reply : Reply) (p : Place) (x : LogItem) (left : List LogItem) → Base j p → KnowsAt j ReadingFront bytes p → AnswersIn (asks_at j ReadingFront bytes) reply → MakesIn j.me (asks_at j ReadingFront bytes) reply (x ∷ left) → Steps j ReadingFront bytes reply p x left
   reading_front bytes (replies.Got got) p x left b k a ms = split _ x left ms (Steps j ReadingFront bytes (replies.Got got) p) (λ legal.
       let did : LogItem = Did j.me (calls.ReadAt 1 0 522) (replies.Got got) in
       let q = quiet j p did b (seat_self j.me) refl refl refl tt tt (record { names = λ name. refl; files = λ f. refl }) in
@@ -211,7 +209,7 @@ module _ (j : Job) where
   reading_front bytes replies.NoMemory p x left b k a ms = split _ x left ms.1 (Steps j ReadingFront bytes replies.NoMemory p) (fails j true ReadingFront bytes replies.NoMemory p b (looks_excused Second p k.1) (λ p' e. into j (ClosingEntry answers.NoMemory Lock) bytes p' e))
   reading_front bytes reply p x left b k a ms = absurd a
 
-  pub leaving : (bytes : List ℕ) (reply : Reply) (p : Place) (x : LogItem) (left : List LogItem) → Base j p → KnowsAt j Leaving bytes p → AnswersIn (asks_at j Leaving bytes) reply → MakesIn j (asks_at j Leaving bytes) reply (x ∷ left) → Steps j Leaving bytes reply p x left
+  pub leaving : (bytes : List ℕ) (reply : Reply) (p : Place) (x : LogItem) (left : List LogItem) → Base j p → KnowsAt j Leaving bytes p → AnswersIn (asks_at j Leaving bytes) reply → MakesIn j.me (asks_at j Leaving bytes) reply (x ∷ left) → Steps j Leaving bytes reply p x left
   leaving bytes replies.Done p x left b k a ms = split _ x left ms (Steps j Leaving bytes replies.Done p) (λ legal.
       let did : LogItem = Did j.me (calls.Close 1) replies.Done in
       let q = quiet j p did b (seat_self j.me) refl refl refl tt tt (record { names = λ name. refl; files = λ f. refl }) in

@@ -10,8 +10,15 @@ use Rattle.file_log.specs.declared.reply.Reply.TheVariants as replies
 use Rattle.file_log.specs.Exchange.{Makes, items_before}
 use Rattle.file_log.specs.Told.{IsSomeItem}
 use Rattle.file_log.proofs.Logs.{some_last}
+use Rattle.files_api.specs.declared.machine.Step.{Step}
+use Rattle.files_api.specs.declared.machine.Step.TheVariants as steps
 
-abbrev pub IsPlain : Call → Type 0
+-- the items of the call that is asked for
+abbrev pub MakesIn : Who → Step → Reply → List LogItem → Type 0
+MakesIn me (steps.Ask call) reply made = Makes me true call reply made
+MakesIn me (steps.Done answer) reply made = ⊥
+
+abbrev IsPlain : Call → Type 0
 IsPlain (calls.OpenOld slot name) = Unit {0}
 IsPlain (calls.OpenNew slot name) = Unit {0}
 IsPlain (calls.TryLock slot) = Unit {0}
@@ -50,8 +57,18 @@ none_refused me (calls.Rename from to) plain ms = some_items [] _ ms.1
 none_refused me (calls.Close slot) plain ms = some_items [] _ ms.1
 none_refused me call plain ms = plain
 
-pub none_made : (me : Who) (call : Call) (reply : Reply) → IsPlain call → Makes me true call reply [] → ⊥
+none_made : (me : Who) (call : Call) (reply : Reply) → IsPlain call → Makes me true call reply [] → ⊥
 none_made me call replies.Done plain ms = none_done me call plain ms
 none_made me call replies.Failed plain ms = some_items (items_before me call ms.0) (Failed me false) ms.1
 none_made me call replies.NoMemory plain ms = none_refused me call plain ms
 none_made me call reply plain ms = some_items [] _ ms
+
+-- ---- of what is asked for
+
+abbrev pub AsksPlain : Step → Type 0
+AsksPlain (steps.Ask call) = IsPlain call
+AsksPlain (steps.Done answer) = ⊥
+
+pub none_asked : (me : Who) (s : Step) (reply : Reply) → AsksPlain s → MakesIn me s reply [] → ⊥
+none_asked me (steps.Ask call) reply plain ms = none_made me call reply plain ms
+none_asked me (steps.Done answer) reply plain ms = plain

@@ -5,7 +5,7 @@ use Rattle.file_log.specs.declared.item.LogItem.{LogItem}
 use Rattle.file_log.specs.declared.item.LogItem.TheVariants.{Failed}
 use Rattle.file_log.specs.declared.reply.Reply.{Reply}
 use Rattle.file_log.specs.declared.reply.Reply.TheVariants as replies
-use Rattle.file_log.specs.Exchange.{Answers, Makes}
+use Rattle.file_log.specs.Exchange.{Answers}
 use Rattle.file_log.specs.Legal.{IsLegal}
 use Rattle.file_log.proofs.All.{seat_self}
 use Rattle.files_api.specs.declared.machine.Step.{Step}
@@ -35,10 +35,6 @@ module _ (j : Job) where
   -- what it asks in a phase
   abbrev pub asks_at : PutPhase → List ℕ → Step
   asks_at phase bytes = asks_put_in j.root j.key bytes phase
-
-  abbrev pub MakesIn : Step → Reply → List LogItem → Type 0
-  MakesIn (steps.Ask call) reply made = Makes j.me true call reply made
-  MakesIn (steps.Done answer) reply made = ⊥
 
   -- what is known in whichever phase follows on the reply
   abbrev pub Follows : PutPhase → List ℕ → Reply → Place → Type 0

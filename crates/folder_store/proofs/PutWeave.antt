@@ -46,8 +46,8 @@ use Rattle.folder_store.specs.Put.{AsksPut, Leaves, LeavesElsewhere, TellsEvicts
 use Rattle.folder_store.specs.PutPhases.{IsNewPut, asks_put, asks_put_in, asked_put, after_put_asking, item_after, FedPut, NextPut}
 use Rattle.folder_store.proofs.PutKnown.{Job, Place, step, other_base, other_told, other_end, Base, base_on, Looking, Answered, KnowsAt, Spares, knows_on, written_on, going_on, rests_goes, old}
 use Rattle.folder_store.proofs.PutRules.{IsRight, whole_still}
-use Rattle.folder_store.proofs.PutSteps.{AnswersIn, asks_at, MakesIn, Follows, Stepped, into, ready_excused}
-use Rattle.folder_store.proofs.PutMakes.{IsPlain, none_made}
+use Rattle.folder_store.proofs.PutSteps.{AnswersIn, asks_at, Follows, Stepped, into, ready_excused}
+use Rattle.folder_store.proofs.PutMakes.{MakesIn, none_asked}
 use Rattle.folder_store.proofs.PutDisks.{still_elsewhere}
 use Rattle.folder_store.proofs.PutLocking.{opening_lock, locking, pausing}
 use Rattle.folder_store.proofs.PutLooks.{opening, measuring, reading, reading_front, leaving}
@@ -80,33 +80,25 @@ module _ (j : Job) (request : Request) (fits : IsDriver j.driver) (filled : nat_
 
   -- ---- a call begins
 
-  abbrev AsksPlain : Step → Type 0
-  AsksPlain (steps.Ask call) = IsPlain call
-  AsksPlain (steps.Done answer) = ⊥
-
-  none_asked : (s : Step) (reply : Reply) → AsksPlain s → MakesIn j s reply [] → ⊥
-  none_asked (steps.Ask call) reply plain ms = none_made j.me call reply plain ms
-  none_asked (steps.Done answer) reply plain ms = plain
-
-  starts : (phase : PutPhase) (bytes : List ℕ) (reply : Reply) (made : List LogItem) (p : Place) → KnowsAt j phase bytes p → AnswersIn (asks_at j phase bytes) reply → MakesIn j (asks_at j phase bytes) reply made → Doing j phase bytes reply made p
+  starts : (phase : PutPhase) (bytes : List ℕ) (reply : Reply) (made : List LogItem) (p : Place) → KnowsAt j phase bytes p → AnswersIn (asks_at j phase bytes) reply → MakesIn j.me (asks_at j phase bytes) reply made → Doing j phase bytes reply made p
   starts (Writing entry) bytes reply made p k a ms = writing_starts j entry bytes reply made p filled k a ms
   starts (Evicting driver) bytes replies.NoMemory [] p k a ms = into j (ClosingEntry answers.NoMemory Lock) bytes p (ready_excused j p k.1)
   starts (Evicting driver) bytes replies.Done [] p k a ms = absurd cc
   starts (Evicting driver) bytes reply [] p k a ms = absurd a
-  starts (Opening look) bytes reply [] p k a ms = absurd (none_asked (asks_at j (Opening look) bytes) reply tt ms)
-  starts (Measuring look) bytes reply [] p k a ms = absurd (none_asked (asks_at j (Measuring look) bytes) reply tt ms)
-  starts (Reading look n) bytes reply [] p k a ms = absurd (none_asked (asks_at j (Reading look n) bytes) reply tt ms)
-  starts ReadingFront bytes reply [] p k a ms = absurd (none_asked (asks_at j ReadingFront bytes) reply tt ms)
-  starts Leaving bytes reply [] p k a ms = absurd (none_asked (asks_at j Leaving bytes) reply tt ms)
-  starts OpeningLock bytes reply [] p k a ms = absurd (none_asked (asks_at j OpeningLock bytes) reply tt ms)
-  starts (Locking again) bytes reply [] p k a ms = absurd (none_asked (asks_at j (Locking again) bytes) reply tt ms)
-  starts (Pausing again) bytes reply [] p k a ms = absurd (none_asked (asks_at j (Pausing again) bytes) reply tt ms)
-  starts (Making entry) bytes reply [] p k a ms = absurd (none_asked (asks_at j (Making entry) bytes) reply tt ms)
-  starts (Cutting entry) bytes reply [] p k a ms = absurd (none_asked (asks_at j (Cutting entry) bytes) reply tt ms)
-  starts (Renaming entry) bytes reply [] p k a ms = absurd (none_asked (asks_at j (Renaming entry) bytes) reply tt ms)
-  starts (ClosingEntry answer besides) bytes reply [] p k a ms = absurd (none_asked (asks_at j (ClosingEntry answer besides) bytes) reply tt ms)
-  starts (ClosingTemp answer) bytes reply [] p k a ms = absurd (none_asked (asks_at j (ClosingTemp answer) bytes) reply tt ms)
-  starts (ClosingLock answer) bytes reply [] p k a ms = absurd (none_asked (asks_at j (ClosingLock answer) bytes) reply tt ms)
+  starts (Opening look) bytes reply [] p k a ms = absurd (none_asked j.me (asks_at j (Opening look) bytes) reply tt ms)
+  starts (Measuring look) bytes reply [] p k a ms = absurd (none_asked j.me (asks_at j (Measuring look) bytes) reply tt ms)
+  starts (Reading look n) bytes reply [] p k a ms = absurd (none_asked j.me (asks_at j (Reading look n) bytes) reply tt ms)
+  starts ReadingFront bytes reply [] p k a ms = absurd (none_asked j.me (asks_at j ReadingFront bytes) reply tt ms)
+  starts Leaving bytes reply [] p k a ms = absurd (none_asked j.me (asks_at j Leaving bytes) reply tt ms)
+  starts OpeningLock bytes reply [] p k a ms = absurd (none_asked j.me (asks_at j OpeningLock bytes) reply tt ms)
+  starts (Locking again) bytes reply [] p k a ms = absurd (none_asked j.me (asks_at j (Locking again) bytes) reply tt ms)
+  starts (Pausing again) bytes reply [] p k a ms = absurd (none_asked j.me (asks_at j (Pausing again) bytes) reply tt ms)
+  starts (Making entry) bytes reply [] p k a ms = absurd (none_asked j.me (asks_at j (Making entry) bytes) reply tt ms)
+  starts (Cutting entry) bytes reply [] p k a ms = absurd (none_asked j.me (asks_at j (Cutting entry) bytes) reply tt ms)
+  starts (Renaming entry) bytes reply [] p k a ms = absurd (none_asked j.me (asks_at j (Renaming entry) bytes) reply tt ms)
+  starts (ClosingEntry answer besides) bytes reply [] p k a ms = absurd (none_asked j.me (asks_at j (ClosingEntry answer besides) bytes) reply tt ms)
+  starts (ClosingTemp answer) bytes reply [] p k a ms = absurd (none_asked j.me (asks_at j (ClosingTemp answer) bytes) reply tt ms)
+  starts (ClosingLock answer) bytes reply [] p k a ms = absurd (none_asked j.me (asks_at j (ClosingLock answer) bytes) reply tt ms)
   starts phase bytes reply [] p k a ms = absurd a
   starts phase bytes reply (x ∷ made) p k a ms = (k, a, ms)
 
@@ -116,7 +108,7 @@ module _ (j : Job) (request : Request) (fits : IsDriver j.driver) (filled : nat_
       let keys : asks_at j m.phase m.item ≡ asks_put_in j.root m.key m.item m.phase = ap (λ (k : Key). asks_put_in j.root k m.item m.phase) (sym inv.0.key) in
       let is : steps.Ask call ≡ asks_at j m.phase m.item = sym (keys ∙ roots ∙ e) in
       let fits' = subst (λ (s : Step). AnswersIn s reply) is a in
-      let makes = subst (λ (s : Step). MakesIn j s reply made) is ms in
+      let makes = subst (λ (s : Step). MakesIn j.me s reply made) is ms in
       (inv.0, inv.1, starts m.phase m.item reply made p inv.2 fits' makes)
 
   -- ---- an own item

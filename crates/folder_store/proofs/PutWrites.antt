@@ -20,7 +20,8 @@ use Rattle.folder_store.specs.PutPhases.{closing}
 use Rattle.folder_store.proofs.PutDisks.{writing_apart, writing_has}
 use Rattle.folder_store.proofs.PutKnown.{Job, Place, step, Base, Going, HasWritten, KnowsAt, rests_goes, going_on}
 use Rattle.folder_store.proofs.PutRules.{IsRight, Changed, changed}
-use Rattle.folder_store.proofs.PutSteps.{AnswersIn, asks_at, MakesIn, Follows, into, closing_knows, going_excused, failed}
+use Rattle.folder_store.proofs.PutMakes.{MakesIn}
+use Rattle.folder_store.proofs.PutSteps.{AnswersIn, asks_at, Follows, into, closing_knows, going_excused, failed}
 
 -- a byte at the end of a file
 pub written_end : (done : List ℕ) (value : ℕ) → written (length done) (value ∷ []) done ≡ done ++ value ∷ []
@@ -43,7 +44,7 @@ module _ (j : Job) where
   abbrev pub Doing : PutPhase → List ℕ → Reply → List LogItem → Place → Type 0
   Doing phase bytes reply [] p = Follows j phase bytes reply p
   Doing (Writing entry) bytes reply (x ∷ made) p = Going j p × ((done : List ℕ) × HasWritten j p done × Writes reply done (x ∷ made))
-  Doing phase bytes reply (x ∷ made) p = KnowsAt j phase bytes p × AnswersIn (asks_at j phase bytes) reply × MakesIn j (asks_at j phase bytes) reply (x ∷ made)
+  Doing phase bytes reply (x ∷ made) p = KnowsAt j phase bytes p × AnswersIn (asks_at j phase bytes) reply × MakesIn j.me (asks_at j phase bytes) reply (x ∷ made)
 
   -- an own item is right, and the call goes on
   pub record Moved (phase : PutPhase) (bytes : List ℕ) (reply : Reply) (p : Place) (x : LogItem) (made : List LogItem) : Type 0 where
@@ -138,14 +139,14 @@ module _ (j : Job) where
   item_bytes : nat_eq (length j.item) 0 ≡ false → (made : List LogItem) → made ≡ cond (nat_eq (length j.item) 0) (Did j.me (calls.WriteAt 3 0 j.item) replies.Done ∷ []) (byte_items j.me 3 0 j.item) → byte_items j.me 3 0 j.item ≡ made
   item_bytes filled made e = sym (e ∙ ap (λ (t : Bool). cond t (Did j.me (calls.WriteAt 3 0 j.item) replies.Done ∷ []) (byte_items j.me 3 0 j.item)) filled)
 
-  starts : (entry : Bool) (reply : Reply) (made : List LogItem) (p : Place) → nat_eq (length j.item) 0 ≡ false → Going j p → HasWritten j p [] → AnswersIn (asks_at j (Writing entry) j.item) reply → MakesIn j (asks_at j (Writing entry) j.item) reply made → Doing (Writing entry) j.item reply made p
+  starts : (entry : Bool) (reply : Reply) (made : List LogItem) (p : Place) → nat_eq (length j.item) 0 ≡ false → Going j p → HasWritten j p [] → AnswersIn (asks_at j (Writing entry) j.item) reply → MakesIn j.me (asks_at j (Writing entry) j.item) reply made → Doing (Writing entry) j.item reply made p
   starts entry replies.Done made p filled g h a ms = subst (λ (l : List LogItem). Doing (Writing entry) j.item replies.Done l p) (item_bytes filled made ms) (done_next entry j.item p [] j.item g h refl)
   starts entry replies.Failed made p filled g h a ms = subst (λ (l : List LogItem). Doing (Writing entry) j.item replies.Failed l p) (sym ms.1) (failed_next entry j.item p [] (take ms.0 j.item) g h)
   starts entry replies.NoMemory made p filled g h a ms = subst (λ (l : List LogItem). Doing (Writing entry) j.item replies.NoMemory l p) (sym ms.1) (refused_next entry j.item p [] (take ms.0 j.item) g h)
   starts entry reply made p filled g h a ms = absurd a
 
-  pub writing_starts : (entry : Bool) (bytes : List ℕ) (reply : Reply) (made : List LogItem) (p : Place) → nat_eq (length j.item) 0 ≡ false → KnowsAt j (Writing entry) bytes p → AnswersIn (asks_at j (Writing entry) bytes) reply → MakesIn j (asks_at j (Writing entry) bytes) reply made → Doing (Writing entry) bytes reply made p
+  pub writing_starts : (entry : Bool) (bytes : List ℕ) (reply : Reply) (made : List LogItem) (p : Place) → nat_eq (length j.item) 0 ≡ false → KnowsAt j (Writing entry) bytes p → AnswersIn (asks_at j (Writing entry) bytes) reply → MakesIn j.me (asks_at j (Writing entry) bytes) reply made → Doing (Writing entry) bytes reply made p
   writing_starts entry bytes reply made p filled k a ms =
-      let at_item : MakesIn j (asks_at j (Writing entry) j.item) reply made = subst (λ (b : List ℕ). MakesIn j (asks_at j (Writing entry) b) reply made) k.0 ms in
+      let at_item : MakesIn j.me (asks_at j (Writing entry) j.item) reply made = subst (λ (b : List ℕ). MakesIn j.me (asks_at j (Writing entry) b) reply made) k.0 ms in
       let fits : AnswersIn (asks_at j (Writing entry) j.item) reply = subst (λ (b : List ℕ). AnswersIn (asks_at j (Writing entry) b) reply) k.0 a in
       subst (λ (b : List ℕ). Doing (Writing entry) b reply made p) (sym k.0) (starts entry reply made p filled k.1 k.2 fits at_item)

@@ -26,8 +26,10 @@ use Rattle.folder_store.specs.declared.put.FolderPut.{FolderPut}
 use Rattle.folder_store.proofs.AmongKnown.{Task}
 use Rattle.folder_store.proofs.AmongKnown as tasks
 use Rattle.folder_store.proofs.Calls.{done_is, not_ask}
+use Rattle.folder_store.proofs.GetAlong as gets
 use Rattle.folder_store.proofs.GetKnown as lookups
 use Rattle.folder_store.proofs.Keeping.{CanFollow, IsIn, in_then, within_other, end_rules}
+use Rattle.folder_store.proofs.PutAlong as puts
 use Rattle.folder_store.proofs.PutEnds.{filled}
 use Rattle.folder_store.specs.Phases as get_phases
 use Rattle.folder_store.specs.Phases.{IsNew}
@@ -37,8 +39,6 @@ use Rattle.op_machine.specs.declared.op.Op.{Op}
 use Rattle.op_machine.specs.declared.op.Op.TheVariants.{Get, Put, Refuse}
 use Rattle.op_machine.specs.Given.{given_step}
 use Rattle.op_machine.specs.Machine.{asks, asked, Fed}
-use Rattle.op_machine.proofs.GetAlong as gets
-use Rattle.op_machine.proofs.PutAlong as puts
 
 -- ---- an operation without a call
 

@@ -1,5 +1,3 @@
-pub mod GetAlong
-pub mod PutAlong
 pub mod Known
 pub mod Slots
 pub mod Starting

@@ -3,7 +3,6 @@ use Rattle.std.proofs.Common.{◌≡◌, ◌+◌, ℕ, cond, ◌&&◌, Bool, tru
 use Rattle.std.specs.Prelude.{is_some}
 use Rattle.std.proofs.lemmas.Bool.{false≢true}
 use Rattle.std.proofs.lemmas.List.{append-nil}
-use Rattle.std.proofs.lemmas.List.Sums.{fold-append}
 use Rattle.cache_types.specs.declared.answer.Answer.{Answer}
 use Rattle.cache_types.specs.declared.name.Name.{Name}
 use Rattle.cache_types.specs.declared.request.Request.{Request}
@@ -35,6 +34,7 @@ use Rattle.files_api.specs.declared.machine.Step.TheVariants.{Ask, Done}
 use Rattle.files_api.specs.Drive.{seen_in, IsWithin, Allows, Goes, Moves}
 use Rattle.folder_rules.specs.Changes.{with_item}
 use Rattle.folder_rules.proofs.Histories.{disk_then}
+use Rattle.folder_store.proofs.Keeping.{course_then}
 use Rattle.op_machine.specs.declared.op.Op.{Op}
 use Rattle.op_machine.specs.Machine.{asks, asked, Fed, slots, hurt, left, allowed, goes_on}
 
@@ -97,15 +97,12 @@ module _ (me : Who) where
 
   -- ---- one item
 
-  course_then : (h : History) (x : LogItem) → course_of me (with_item h x).log ≡ course_after me (course_of me h.log) x
-  course_then h x = fold-append (course_after me) (record { inside = false; hurt = false }) h.log (x ∷ [])
-
   -- one that leaves the operation as it was
   kept : (f g : ℕ → Bool) (b : Bool) (h : History) (x : LogItem) → HasSlots f b h → course_after me (course_of me h.log) x ≡ course_of me h.log → ((at : ℕ) → filled_of (applied (disk_of h) x) me at ≡ g at) → HasSlots g b (with_item h x)
   kept f g b h x s same filled = record {
     filled = λ at. ap (λ (d : Disk). filled_of d me at) (disk_then h x) ∙ filled at;
-    inside = ap (λ (c : Course). c.inside) (course_then h x ∙ same) ∙ s.inside;
-    covers = λ e. s.covers (sym (ap (λ (c : Course). c.hurt) (course_then h x ∙ same)) ∙ e);
+    inside = ap (λ (c : Course). c.inside) (course_then me h x ∙ same) ∙ s.inside;
+    covers = λ e. s.covers (sym (ap (λ (c : Course). c.hurt) (course_then me h x ∙ same)) ∙ e);
   }
 
   pub other_keeps : (f : ℕ → Bool) (b : Bool) (h : History) (x : LogItem) → HasSlots f b h → is_own me x ≡ false → is_stop me.process x ≡ false → HasSlots f b (with_item h x)
@@ -125,7 +122,7 @@ module _ (me : Who) where
   failed_keeps : (f : ℕ → Bool) (b memory : Bool) (h : History) → HasSlots f b h → HasSlots f true (with_item h (items.Failed me memory))
   failed_keeps f b memory h s = record {
     filled = λ at. ap (λ (d : Disk). filled_of d me at) (disk_then h (items.Failed me memory)) ∙ s.filled at;
-    inside = ap (λ (c : Course). c.inside) (course_then h (items.Failed me memory)) ∙ rw (seat_self me) s.inside;
+    inside = ap (λ (c : Course). c.inside) (course_then me h (items.Failed me memory)) ∙ rw (seat_self me) s.inside;
     covers = λ e. refl;
   }
 
@@ -133,8 +130,8 @@ module _ (me : Who) where
   pub begun_has : (request : Request) (h : History) → HasNone h → HasSlots (λ at. false) false (with_item h (items.Begin me request))
   begun_has request h none = record {
     filled = none_still h (items.Begin me request) none refl;
-    inside = ap (λ (c : Course). c.inside) (course_then h (items.Begin me request)) ∙ rw (seat_self me) refl;
-    covers = λ e. absurd (false≢true (sym (ap (λ (c : Course). c.hurt) (course_then h (items.Begin me request)) ∙ rw (seat_self me) refl) ∙ e));
+    inside = ap (λ (c : Course). c.inside) (course_then me h (items.Begin me request)) ∙ rw (seat_self me) refl;
+    covers = λ e. absurd (false≢true (sym (ap (λ (c : Course). c.hurt) (course_then me h (items.Begin me request)) ∙ rw (seat_self me) refl) ∙ e));
   }
 
   -- ---- a call that is answered

@@ -25,6 +25,7 @@ use Rattle.file_log.specs.State.{disk_of}
 use Rattle.file_log.proofs.All.{seat_self}
 use Rattle.files_api.specs.declared.machine.Step.TheVariants.{Ask, Done}
 use Rattle.files_api.specs.Drive.{IsEndOf}
+use Rattle.files_api.proofs.Weave.{Inductive}
 use Rattle.item_frame.specs.Item.{Reads}
 use Rattle.item_frame.proofs.Laws.{at_most}
 use Rattle.folder_rules.specs.Changes.{with_item}
@@ -44,14 +45,8 @@ use Rattle.folder_store.proofs.GetKnown.{asked_for, Told, KnowsAt, told_then, kn
 use Rattle.folder_store.proofs.Keeping.{CanFollow, still_rules, within_inner, within_other, IsIn, in_then, end_rules}
 use Rattle.folder_store.proofs.Opened.{HasOpen, opened_now, missing_now, open_then, in_slot, seen_gives, seen_lacks}
 use Rattle.folder_store.proofs.Still.{looking_still}
-use Rattle.files_api.proofs.Weave.{Inductive}
 
 -- the item of a call that only looks
-mine : (me : Who) (call : Call) (reply : Reply) → is_own me (item_for me call reply) ≡ true
-mine me call replies.Failed = seat_self me
-mine me call replies.NoMemory = seat_self me
-mine me call reply = seat_self me
-
 inner : (me : Who) (call : Call) (reply : Reply) → is_bound (item_for me call reply) ≡ false
 inner me call replies.Failed = refl
 inner me call replies.NoMemory = refl
@@ -243,10 +238,12 @@ module _ (me : Who) (root : ℕ) (driver : DriverKeys) (key : Key) (ro : RoPlan)
   told_end given answer h (inl e) t = subst (λ (a : Answer). Tells a h) (sym e) t
   told_end given answer h (inr lack) t = subst (λ (a : Answer). Tells a h) (sym lack.0) tt
 
+  -- what its answer tells
+  pub tells : (m : FolderGet) (given answer : Answer) (h : History) → Between m h → asks m ≡ Done given → IsEndOf given answer → Tells answer h
+  tells m given answer h b e is = told_end given answer h is (ended m.phase given h b.2 (asks_of m b.0 ∙ e))
+
   pub ends : (m : FolderGet) (given answer : Answer) (h : History) → Between m h → asks m ≡ Done given → IsEndOf given answer → KeepsRules h (items.End me answer)
-  ends m given answer h b e is =
-      let told = told_end given answer h is (ended m.phase given h b.2 (asks_of m b.0 ∙ e)) in
-      end_rules me h answer b.1.order (told_earns me root driver key ro answer h b.1 told)
+  ends m given answer h b e is = end_rules me h answer b.1.order (told_earns me root driver key ro answer h b.1 (tells m given answer h b e is))
 
   -- ---- its start
 

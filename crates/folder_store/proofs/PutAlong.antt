@@ -33,10 +33,10 @@ use Rattle.folder_store.proofs.AmongChanges.{evicting, making, cutting, renaming
 use Rattle.folder_store.proofs.AmongKnown.{Task, asked_for, In, Told, KnowsAt, going_other, written_other, knows_other, told_earns}
 use Rattle.folder_store.proofs.AmongLock.{opening_lock, locking, pausing}
 use Rattle.folder_store.proofs.AmongLooks.{opening, measuring, reading, reading_front, leaving}
-use Rattle.folder_store.proofs.AmongSteps.{asks_at, MakesIn, Stepped, Follows, into}
+use Rattle.folder_store.proofs.AmongSteps.{asks_at, Stepped, Follows, into}
 use Rattle.folder_store.proofs.AmongWrites.{Doing, Moved, writing, writing_starts}
 use Rattle.folder_store.proofs.Keeping.{CanFollow, within_other, in_then, end_rules}
-use Rattle.folder_store.proofs.PutMakes.{IsPlain, none_made}
+use Rattle.folder_store.proofs.PutMakes.{MakesIn, none_asked}
 use Rattle.folder_store.proofs.PutSteps.{AnswersIn}
 
 module _ (t : Task) (some : nat_eq (length t.item) 0 ≡ false) (reads : Reads t.driver t.item t.blob) where
@@ -57,33 +57,25 @@ module _ (t : Task) (some : nat_eq (length t.item) 0 ≡ false) (reads : Reads t
 
   -- ---- a call begins
 
-  abbrev AsksPlain : Step → Type 0
-  AsksPlain (steps.Ask call) = IsPlain call
-  AsksPlain (steps.Done answer) = ⊥
-
-  none_asked : (s : Step) (reply : Reply) → AsksPlain s → MakesIn t s reply [] → ⊥
-  none_asked (steps.Ask call) reply plain ms = none_made t.me call reply plain ms
-  none_asked (steps.Done answer) reply plain ms = plain
-
-  starts : (phase : PutPhase) (bytes : List ℕ) (reply : Reply) (made : List LogItem) (h : History) → KnowsAt t phase bytes h → AnswersIn (asks_at t phase bytes) reply → MakesIn t (asks_at t phase bytes) reply made → Doing t phase bytes reply made h
+  starts : (phase : PutPhase) (bytes : List ℕ) (reply : Reply) (made : List LogItem) (h : History) → KnowsAt t phase bytes h → AnswersIn (asks_at t phase bytes) reply → MakesIn t.me (asks_at t phase bytes) reply made → Doing t phase bytes reply made h
   starts (Writing also) bytes reply made h k a ms = writing_starts t also bytes reply made h some k a ms
   starts (Evicting driver) bytes replies.NoMemory [] h k a ms = into t (ClosingEntry answers.NoMemory Lock) bytes h tt
   starts (Evicting driver) bytes replies.Done [] h k a ms = absurd cc
   starts (Evicting driver) bytes reply [] h k a ms = absurd a
-  starts (Opening look) bytes reply [] h k a ms = absurd (none_asked (asks_at t (Opening look) bytes) reply tt ms)
-  starts (Measuring look) bytes reply [] h k a ms = absurd (none_asked (asks_at t (Measuring look) bytes) reply tt ms)
-  starts (Reading look n) bytes reply [] h k a ms = absurd (none_asked (asks_at t (Reading look n) bytes) reply tt ms)
-  starts ReadingFront bytes reply [] h k a ms = absurd (none_asked (asks_at t ReadingFront bytes) reply tt ms)
-  starts Leaving bytes reply [] h k a ms = absurd (none_asked (asks_at t Leaving bytes) reply tt ms)
-  starts OpeningLock bytes reply [] h k a ms = absurd (none_asked (asks_at t OpeningLock bytes) reply tt ms)
-  starts (Locking again) bytes reply [] h k a ms = absurd (none_asked (asks_at t (Locking again) bytes) reply tt ms)
-  starts (Pausing again) bytes reply [] h k a ms = absurd (none_asked (asks_at t (Pausing again) bytes) reply tt ms)
-  starts (Making also) bytes reply [] h k a ms = absurd (none_asked (asks_at t (Making also) bytes) reply tt ms)
-  starts (Cutting also) bytes reply [] h k a ms = absurd (none_asked (asks_at t (Cutting also) bytes) reply tt ms)
-  starts (Renaming also) bytes reply [] h k a ms = absurd (none_asked (asks_at t (Renaming also) bytes) reply tt ms)
-  starts (ClosingEntry answer besides) bytes reply [] h k a ms = absurd (none_asked (asks_at t (ClosingEntry answer besides) bytes) reply tt ms)
-  starts (ClosingTemp answer) bytes reply [] h k a ms = absurd (none_asked (asks_at t (ClosingTemp answer) bytes) reply tt ms)
-  starts (ClosingLock answer) bytes reply [] h k a ms = absurd (none_asked (asks_at t (ClosingLock answer) bytes) reply tt ms)
+  starts (Opening look) bytes reply [] h k a ms = absurd (none_asked t.me (asks_at t (Opening look) bytes) reply tt ms)
+  starts (Measuring look) bytes reply [] h k a ms = absurd (none_asked t.me (asks_at t (Measuring look) bytes) reply tt ms)
+  starts (Reading look n) bytes reply [] h k a ms = absurd (none_asked t.me (asks_at t (Reading look n) bytes) reply tt ms)
+  starts ReadingFront bytes reply [] h k a ms = absurd (none_asked t.me (asks_at t ReadingFront bytes) reply tt ms)
+  starts Leaving bytes reply [] h k a ms = absurd (none_asked t.me (asks_at t Leaving bytes) reply tt ms)
+  starts OpeningLock bytes reply [] h k a ms = absurd (none_asked t.me (asks_at t OpeningLock bytes) reply tt ms)
+  starts (Locking again) bytes reply [] h k a ms = absurd (none_asked t.me (asks_at t (Locking again) bytes) reply tt ms)
+  starts (Pausing again) bytes reply [] h k a ms = absurd (none_asked t.me (asks_at t (Pausing again) bytes) reply tt ms)
+  starts (Making also) bytes reply [] h k a ms = absurd (none_asked t.me (asks_at t (Making also) bytes) reply tt ms)
+  starts (Cutting also) bytes reply [] h k a ms = absurd (none_asked t.me (asks_at t (Cutting also) bytes) reply tt ms)
+  starts (Renaming also) bytes reply [] h k a ms = absurd (none_asked t.me (asks_at t (Renaming also) bytes) reply tt ms)
+  starts (ClosingEntry answer besides) bytes reply [] h k a ms = absurd (none_asked t.me (asks_at t (ClosingEntry answer besides) bytes) reply tt ms)
+  starts (ClosingTemp answer) bytes reply [] h k a ms = absurd (none_asked t.me (asks_at t (ClosingTemp answer) bytes) reply tt ms)
+  starts (ClosingLock answer) bytes reply [] h k a ms = absurd (none_asked t.me (asks_at t (ClosingLock answer) bytes) reply tt ms)
   starts phase bytes reply [] h k a ms = absurd a
   starts phase bytes reply (x ∷ made) h k a ms = (k, a, ms)
 
@@ -93,14 +85,14 @@ module _ (t : Task) (some : nat_eq (length t.item) 0 ≡ false) (reads : Reads t
   enters : (m : FolderPut) (call : Call) (reply : Reply) (made : List LogItem) (h : History) → Between m h → asks_put m ≡ steps.Ask call → Answers true call reply → Makes t.me true call reply made → During m call reply made h
   enters m call reply made h b e a ms =
       let is : steps.Ask call ≡ asks_at t m.phase m.item = sym (asks_is m b.0 ∙ e) in
-      (b.0, b.1, starts m.phase m.item reply made h b.2 (subst (λ (s : Step). AnswersIn s reply) is a) (subst (λ (s : Step). MakesIn t s reply made) is ms))
+      (b.0, b.1, starts m.phase m.item reply made h b.2 (subst (λ (s : Step). AnswersIn s reply) is a) (subst (λ (s : Step). MakesIn t.me s reply made) is ms))
 
   -- ---- an own item
 
   follows : (phase : PutPhase) (bytes : List ℕ) (reply : Reply) (h : History) (x : LogItem) (made : List LogItem) → Stepped t phase bytes reply h x made → Moved t phase bytes reply h x made
   follows phase bytes reply h x made s = record { rules = s.rules; within = s.within; evicts = s.evicts; does = subst (λ (l : List LogItem). Doing t phase bytes reply l (with_item h x)) (sym s.last) s.follows }
 
-  moves : (phase : PutPhase) (bytes : List ℕ) (reply : Reply) (x : LogItem) (made : List LogItem) (h : History) → In t h → Doing t phase bytes reply (x ∷ made) h → CanFollow h x → Moved t phase bytes reply h x made
+  pub moves : (phase : PutPhase) (bytes : List ℕ) (reply : Reply) (x : LogItem) (made : List LogItem) (h : History) → In t h → Doing t phase bytes reply (x ∷ made) h → CanFollow h x → Moved t phase bytes reply h x made
   moves (Opening look) bytes reply x made h i d legal = follows (Opening look) bytes reply h x made (opening t look bytes reply h x made i d.0 d.1 d.2 legal)
   moves (Measuring look) bytes reply x made h i d legal = follows (Measuring look) bytes reply h x made (measuring t look bytes reply h x made i d.0 d.1 d.2 legal)
   moves (Reading look n) bytes reply x made h i d legal = follows (Reading look n) bytes reply h x made (reading t look n bytes reply h x made i d.0 d.1 d.2 legal)
