@@ -1,5 +1,6 @@
 ghost use Rattle.std.specs.Prelude.{◌≡◌, IfOk, IsTrue, map};
 ghost use Rattle.file_log.specs.Seat.{IsIdle};
+ghost use Rattle.report_text.specs.declared.status.Status.{Status};
 ghost use Rattle.test_calls.specs.Ended.{EndedSo};
 
 use crate::entries::ME;
@@ -51,7 +52,7 @@ impl<'a> Call<'a> {
     /// Makes the call, and whether it ended as it has to.
     pub fn take<F: Files>(&self, alloc: Global, files: &mut F) -> Result<bool, NoMemory>
         requires { IsIdle (F.seen files.old) }
-        ensures ended { IfOk result (λ good. IsTrue good → EndedSo (map (λ word. word.now) self.now.words.now) (map (λ pair. (pair.0.now, pair.1.now)) self.now.vars.now) (F.me files.old) self.now.status self.now.input.now self.now.printed.now (F.history files.old) (F.history files.new) (F.faults files.old) (F.faults files.new)) }
+        ensures ended { IfOk result (λ good. IsTrue good → (status : Status) × IsTrue (⟦<Status as PartialEq>⟧.eq status self.now.status) × EndedSo (map (λ word. word.now) self.now.words.now) (map (λ pair. (pair.0.now, pair.1.now)) self.now.vars.now) (F.me files.old) status self.now.input.now self.now.printed.now (F.history files.old) (F.history files.new) (F.faults files.old) (F.faults files.new)) }
         ensures idle { IsIdle (F.seen files.new) }
         ensures me { F.me files.new ≡ F.me files.old }
     {

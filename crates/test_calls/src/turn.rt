@@ -1,5 +1,6 @@
 ghost use Rattle.std.specs.Prelude.{◌≡◌, [], IfOk, IsTrue};
 ghost use Rattle.file_log.specs.Seat.{IsIdle};
+ghost use Rattle.report_text.specs.declared.status.Status.{Status};
 ghost use Rattle.test_calls.specs.Ended.{EndedSo, turn_words};
 
 use crate::call::Call;
@@ -61,7 +62,7 @@ impl Turn<'_> {
     /// Makes the call, and whether it ended as it has to.
     pub fn take<F: Files>(&self, alloc: Global, files: &mut F) -> Result<bool, NoMemory>
         requires { IsIdle (F.seen files.old) }
-        ensures ended { IfOk result (λ good. IsTrue good → EndedSo (turn_words self.now.word.now self.now.id.now self.now.key.now) [] (F.me files.old) self.now.status self.now.input.now self.now.printed.now (F.history files.old) (F.history files.new) (F.faults files.old) (F.faults files.new)) }
+        ensures ended { IfOk result (λ good. IsTrue good → (status : Status) × IsTrue (⟦<Status as PartialEq>⟧.eq status self.now.status) × EndedSo (turn_words self.now.word.now self.now.id.now self.now.key.now) [] (F.me files.old) status self.now.input.now self.now.printed.now (F.history files.old) (F.history files.new) (F.faults files.old) (F.faults files.new)) }
         ensures idle { IsIdle (F.seen files.new) }
         ensures me { F.me files.new ≡ F.me files.old }
     {
