@@ -19,7 +19,6 @@ use Rattle.folder_store.specs.declared.get.Phase.TheVariants as phases
 use Rattle.folder_store.specs.declared.put.FolderPut.{FolderPut}
 use Rattle.folder_store.specs.declared.put_phase.Look.TheVariants.{First}
 use Rattle.folder_store.specs.declared.put_phase.PutPhase.TheVariants as puts
-use Rattle.folder_store.specs.Lookup.{IsLookupAnswer}
 use Rattle.folder_store.specs.Phases as gets
 use Rattle.folder_store.specs.Put.{IsPutAnswer}
 use Rattle.folder_store.specs.PutPhases.{asks_put, asked_put, FedPut}
@@ -33,7 +32,7 @@ use Rattle.op_machine.specs.Given.{given_step}
 use Rattle.op_machine.specs.Machine.{asks, asked, Fed}
 use Rattle.op_machine.specs.Requests.{IsOpOf}
 use Rattle.seat_order.specs.Doing.{RunsTo, HasCome}
-use Rattle.seat_order.specs.Operating.{FaultIsTold, BusyIsTold, EndsPut, EndsFor}
+use Rattle.seat_order.specs.Operating.{EndsLookup, EndsPut, EndsFor}
 use Rattle.seat_order.proofs.Running.{no_ask, runs_out}
 
 -- ---- the machine of a kind
@@ -68,24 +67,23 @@ put_kind = record { asks_same = λ m. refl; fed_same = fed }
 -- ---- what it gives
 
 module _ (me : Who) where
-  get_gives : (first : FolderGet) (last : Op) (xs : List Exchange) (given : Answer) → first.phase ≡ phases.Opening → Runs asks asked Fed me (ops.Get first) xs given last → IsLookupAnswer given × FaultIsTold given (items_of_all xs)
+  get_gives : (first : FolderGet) (last : Op) (xs : List Exchange) (given : Answer) → first.phase ≡ phases.Opening → Runs asks asked Fed me (ops.Get first) xs given last → EndsLookup given (items_of_all xs)
   get_gives first last xs given opening run =
       let r = kind_runs gets.asks gets.asked gets.Fed ops.Get get_kind me first last xs given run in
       let out = outcome me first r.0 xs given opening r.1 in
-      (out.kind, (out.told, out.only))
+      record { kind = out.kind; fault = (out.told, out.only) }
 
-  put_gives : (first : FolderPut) (last : Op) (xs : List Exchange) (given : Answer) → first.phase ≡ puts.Opening First → Runs asks asked Fed me (ops.Put first) xs given last → IsPutAnswer given × FaultIsTold given (items_of_all xs) × BusyIsTold given (items_of_all xs)
+  put_gives : (first : FolderPut) (last : Op) (xs : List Exchange) (given : Answer) → first.phase ≡ puts.Opening First → Runs asks asked Fed me (ops.Put first) xs given last → EndsPut given (items_of_all xs)
   put_gives first last xs given opening run =
       let r = kind_runs asks_put asked_put FedPut ops.Put put_kind me first last xs given run in
       let out = put_outcome me first r.0 xs given opening r.1 in
       let tried = tried_lock me first.root first.key first r.0 xs given (record { root_is = refl; key_is = refl }) opening r.1 in
-      (out.kind, (out.told, out.only), busy_is me first.root first.key given (items_of_all xs) tried)
+      record { kind = out.kind; fault = (out.told, out.only); busy = busy_is me first.root first.key given (items_of_all xs) tried }
 
   gives_so : (request : Request) (first m : Op) (xs : List Exchange) (given : Answer) → IsOpOf request first → RunsTo me first xs m → asks m ≡ Done given → EndsFor request given (items_of_all xs)
   gives_so (requests.Get store driver key ro) (ops.Get first) m xs given new runs e = get_gives first (asked m) xs given new.opening (runs_out me (ops.Get first) m xs given runs e)
   gives_so (requests.Put store driver key meta blob limit) (ops.Put first) m xs given new runs e =
-      let p = put_gives first (asked m) xs given new.1.opening (runs_out me (ops.Put first) m xs given runs e) in
-      inl (new.0, p.0, p.1, p.2)
+      inl (new.0, put_gives first (asked m) xs given new.1.opening (runs_out me (ops.Put first) m xs given runs e))
   gives_so (requests.Put store driver key meta blob limit) (ops.Refuse first) m [] given new runs e =
       inr (new.0, inl (sym (done_is (answers.TooLarge (length blob)) given (sym (ap given_step new.1) ∙ (ap asks runs ∙ e)))))
   gives_so (requests.Put store driver key meta blob limit) (ops.Refuse first) m (x ∷ xs) given new runs e = no_ask first.answer x.call runs.0
@@ -99,12 +97,15 @@ module _ (me : Who) where
 
 -- there was no memory for a machine
 pub none_ends : (me : Who) (request : Request) → EndsFor request answers.NoMemory []
-none_ends me (requests.Get store driver key ro) = (tt, (λ e. absurd cc, λ e. absurd cc))
+none_ends me (requests.Get store driver key ro) = record { kind = tt; fault = (λ e. absurd cc, λ e. absurd cc) }
 none_ends me (requests.Put store driver key meta blob limit) = by_size (nat_lt MAX_BLOB (length blob)) refl
   where
-    by_size : (b : Bool) → nat_lt MAX_BLOB (length blob) ≡ b → EndsPut (length blob) answers.NoMemory []
+    nothing_put : EndsPut answers.NoMemory []
+    nothing_put = record { kind = tt; fault = (λ e. absurd cc, λ e. absurd cc); busy = busy_is me store.root key answers.NoMemory [] (never_tried me store.root key answers.NoMemory [] refl refl) }
+
+    by_size : (b : Bool) → nat_lt MAX_BLOB (length blob) ≡ b → EndsFor (requests.Put store driver key meta blob limit) answers.NoMemory []
     by_size true e = inr (ltb-true MAX_BLOB (length blob) e, inr refl)
-    by_size false e = inl (ltb-false MAX_BLOB (length blob) e, tt, (λ e. absurd cc, λ e. absurd cc), busy_is me store.root key answers.NoMemory [] (never_tried me store.root key answers.NoMemory [] refl refl))
+    by_size false e = inl (ltb-false MAX_BLOB (length blob) e, nothing_put)
 none_ends me request = refl
 
 small_put : (a : Answer) → IsPutAnswer a → IsSmall a
@@ -117,8 +118,8 @@ small_put a k = absurd k
 
 -- want of memory in place of an answer that carries a list
 lack_ends : (request : Request) (given : Answer) (made : List LogItem) → (IsSmall given → ⊥) → EndsFor request given made → EndsFor request answers.NoMemory made
-lack_ends (requests.Get store driver key ro) given made big ends = (tt, (λ e. absurd cc, λ some. absurd (big (subst IsSmall (sym (ends.1.1 some)) tt))))
-lack_ends (requests.Put store driver key meta blob limit) given made big (inl ends) = absurd (big (small_put given ends.1))
+lack_ends (requests.Get store driver key ro) given made big ends = record { kind = tt; fault = (λ e. absurd cc, λ some. absurd (big (subst IsSmall (sym (ends.fault.1 some)) tt))) }
+lack_ends (requests.Put store driver key meta blob limit) given made big (inl ends) = absurd (big (small_put given ends.1.kind))
 lack_ends (requests.Put store driver key meta blob limit) given made big (inr ends) = inr (ends.0, inr refl)
 lack_ends request given made big ends = refl
 

@@ -13,12 +13,12 @@ use Rattle.seat_order.proofs.Insides.{IsOfCall, IsOneOfCall, none_at_first, few_
 
 -- ---- at the places
 
-nothing_few : (who : Who) → AreFewAfter who []
-nothing_few who request i = absurd (none_at_first who request i)
+first_few : (who : Who) → AreFewAfter who []
+first_few who request i = absurd (none_at_first who request i)
 
 pub operates_at_first : (who : Who) → Operates who []
-operates_at_first who zero = record { few = nothing_few who; fits = λ item e. absurd cc }
-operates_at_first who (suc n) = record { few = nothing_few who; fits = λ item e. absurd cc }
+operates_at_first who zero = record { few = first_few who; fits = λ item e. absurd cc }
+operates_at_first who (suc n) = record { few = first_few who; fits = λ item e. absurd cc }
 
 get_kept : (log : List LogItem) (x : LogItem) (n : ℕ) → n < length log → slice_get (log ++ x ∷ []) n ≡ slice_get log n
 get_kept [] x n less = absurd (omega arith)

@@ -33,7 +33,7 @@ each_append P (x ∷ xs) ys a b = (a.0, each_append P xs ys a.1 b)
 abbrev pub CallsWithin : ℕ → List Exchange → Type 0
 CallsWithin root xs = AllByRecursion (λ x. IsWithin x.call × NamesOnly root x.call) xs
 
--- ---- a machine that asks for just these calls, one after another
+-- ---- a machine that asks for just these calls, one after another: what is known of runs so holds of them
 
 abbrev script_asks : List Exchange → Step
 script_asks [] = Done NoMemory
@@ -73,8 +73,9 @@ module _ (me : Who) where
   pub exchanges_within : (root : ℕ) (xs : List Exchange) → AreExchanges xs → CallsWithin root xs → AllByRecursion (IsWithinRoot root) (items_of_all xs)
   exchanges_within root xs all within = all_within script_asks script_asked ScriptFed me root (CallsWithin root) (script_within root) (script_lasts root) xs [] xs NoMemory within (script_runs xs all)
 
-  -- ---- a call that is under way: a write has made its first bytes, as if it were a write of those
+  -- ---- a call that is under way
 
+  -- a write has made its first bytes, as if it were a write of those
   abbrev written : ℕ → ℕ → List ℕ → List Exchange
   written slot at [] = []
   written slot at (v ∷ vs) = record { call = calls.WriteAt slot at (v ∷ vs); reply = replies.Done; items = byte_items me slot at (v ∷ vs) } ∷ []
@@ -91,7 +92,7 @@ module _ (me : Who) where
   under_way_items (calls.WriteAt slot at bytes) done = written_items slot at (take done bytes)
   under_way_items call done = refl
 
-  -- it is one exchange that counts as a call, and names no file, or none
+  -- exchanges that count as one call at most, and name no file
   pub record IsSmallPart (xs : List Exchange) : Type 0 where
     pub exchanges : AreExchanges xs
     pub one : weights xs ≤ 1

@@ -43,24 +43,26 @@ pub record AreFew (request : Request) (made : List LogItem) : Type 0 where
 
 -- ---- its answer
 
--- a fault exactly where one of its calls failed other than for want of memory
-abbrev pub FaultIsTold : Answer → List LogItem → Type 0
-FaultIsTold answer made = (answer ≡ FilesFault) ↔ (list_any is_fault made ≡ true)
+-- what a lookup ends with: an answer of one, and a fault exactly where one of its calls failed other than for want of memory
+pub record EndsLookup (answer : Answer) (made : List LogItem) : Type 0 where
+  pub kind : IsLookupAnswer answer
+  pub fault : (answer ≡ FilesFault) ↔ (list_any is_fault made ≡ true)
 
--- busy exactly where so many tries of the lock in a row found that another seat has it
-abbrev pub BusyIsTold : Answer → List LogItem → Type 0
-BusyIsTold answer made = (answer ≡ Busy) ↔ HeldInRow LOCK_TRIES (lock_replies made)
+-- what a put ends with: an answer of one, a fault as a lookup's, and busy exactly where so many tries of the lock in a row found that another
+-- seat has it
+pub record EndsPut (answer : Answer) (made : List LogItem) : Type 0 where
+  pub kind : IsPutAnswer answer
+  pub fault : (answer ≡ FilesFault) ↔ (list_any is_fault made ≡ true)
+  pub busy : (answer ≡ Busy) ↔ HeldInRow LOCK_TRIES (lock_replies made)
 
--- what a put ends with: one of a blob that is too large with its length, or for want of memory
-abbrev pub EndsPut : ℕ → Answer → List LogItem → Type 0
-EndsPut n answer made =
-    ((n ≤ MAX_BLOB) × IsPutAnswer answer × FaultIsTold answer made × BusyIsTold answer made)
-    ⊎ ((MAX_BLOB < n) × ((answer ≡ TooLarge n) ⊎ (answer ≡ NoMemory)))
+-- what a put of n bytes ends with, which are too many: that they are, or that there was no memory
+abbrev pub EndsLarge : ℕ → Answer → Type 0
+EndsLarge n answer = (answer ≡ TooLarge n) ⊎ (answer ≡ NoMemory)
 
 -- an answer of the request, whose cause is among these items; a request that isn't served ends for want of memory alone
 abbrev pub EndsFor : Request → Answer → List LogItem → Type 0
-EndsFor (requests.Get store driver key ro) answer made = IsLookupAnswer answer × FaultIsTold answer made
-EndsFor (requests.Put store driver key meta blob limit) answer made = EndsPut (length blob) answer made
+EndsFor (requests.Get store driver key ro) answer made = EndsLookup answer made
+EndsFor (requests.Put store driver key meta blob limit) answer made = ((length blob ≤ MAX_BLOB) × EndsPut answer made) ⊎ ((MAX_BLOB < length blob) × EndsLarge (length blob) answer)
 EndsFor request answer made = answer ≡ NoMemory
 
 -- ---- at the places of a log
