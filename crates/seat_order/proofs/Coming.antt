@@ -1,5 +1,5 @@
 -- A log in which some seats are set apart, and how it goes on by each kind of item.
-use Rattle.std.proofs.Common.{◌≡◌, ◌||◌, ℕ, Bool, true, false, List, [], ◌∷◌, ◌++◌, Option, Some, None, refl, sym, ap, ◌∙◌, subst, append_assoc}
+use Rattle.std.proofs.Common.{◌≡◌, ◌||◌, ℕ, Bool, true, false, List, [], ◌∷◌, ◌++◌, None, refl, sym, ap, ◌∙◌, subst, append_assoc}
 use Rattle.std.proofs.lemmas.Bool.{false≢true}
 use Rattle.std.proofs.lemmas.List.{append-nil}
 use Rattle.cache_types.specs.Seats.{same_seat}
@@ -32,16 +32,20 @@ use Rattle.op_machine.specs.Places.{Where, Leads}
 use Rattle.world_tables.proofs.Finds.{same_seat-true}
 use Rattle.op_machine.proofs.Orderly.{IsOrderly, AreMine, OnlyMoves}
 use Rattle.seat_order.specs.Apart.{GoesOn, IsAt, IsOrderlyBut}
+use Rattle.seat_order.specs.Laws.{AllOperate}
+use Rattle.seat_order.specs.Operating.{Operates}
 use Rattle.seat_order.proofs.Readying.{ready_inside}
 use Rattle.seat_order.proofs.Parting.{goes_on_before, cooperating_before, last_keeps, keeps_by_own, keeps_by_other}
 use Rattle.seat_order.proofs.Mine.{not_others, step_mine}
-use Rattle.seat_order.proofs.Moving.{KeepRules, LeadsTo, at_first, at_stays, at_begins, at_steps, at_ends, at_takes}
+use Rattle.seat_order.proofs.Placed.{operates_at_first, operates_by_other}
+use Rattle.seat_order.proofs.Moving.{LeadsTo, at_first, at_stays, at_begins, at_steps, at_ends, at_takes}
 
 -- ---- before any item
 
 pub apart_at_first : (apart : Who → Bool) → IsOrderlyBut apart (λ who. Where.Outside) []
 apart_at_first apart = record {
   keep = λ who known n item e. absurd cc;
+  operate = λ who known. operates_at_first who;
   there = λ who known goes. at_first who;
   order = λ keeps. stays_in_order.0;
 }
@@ -56,6 +60,7 @@ IsNoOthers apart x = (who : Who) → apart who ≡ false → is_own who x ≡ fa
 pub passes : (apart : Who → Bool) (seats : Who → Where) (log : List LogItem) (x : LogItem) → IsOrderlyBut apart seats log → CanFollow (past log) x → IsNoOthers apart x → IsOrderlyBut apart seats (log ++ x ∷ [])
 passes apart seats log x o legal others = record {
   keep = λ who known. keeps_by_other who log x (o.keep who known) (others who known);
+  operate = λ who known. operates_by_other who log x (o.operate who known) (others who known);
   there = λ who known goes. let before = goes_on_before log x who goes in at_stays who (seats who) log x (o.there who known before.0) (others who known) before.1 legal;
   order = λ keeps. stays_in_order.1 (past log) x (o.order (cooperating_before log (x ∷ []) keeps)) legal (last_keeps log x keeps);
 }
@@ -86,6 +91,7 @@ besides apart me who = apart who || same_seat me who
 steps_aside : (apart : Who → Bool) (me : Who) (seats : Who → Where) (log : List LogItem) → IsOrderlyBut apart seats log → IsOrderlyBut (besides apart me) seats log
 steps_aside apart me seats log o = record {
   keep = λ who known. o.keep who (or_false (apart who) (same_seat me who) known).0;
+  operate = λ who known. o.operate who (or_false (apart who) (same_seat me who) known).0;
   there = λ who known goes. o.there who (or_false (apart who) (same_seat me who) known).0 goes;
   order = o.order;
 }
@@ -98,9 +104,10 @@ or_true : (a b : Bool) → b ≡ true → (a || b) ≡ true
 or_true true b e = refl
 or_true false b e = e
 
-comes_back : (apart : Who → Bool) (me : Who) (seats seats' : Who → Where) (log : List LogItem) → IsOrderlyBut (besides apart me) seats log → OnlyMoves me seats seats' → IsAt me (seats' me) log → KeepsBy me log → IsOrderlyBut apart seats' log
-comes_back apart me seats seats' log o others s k = record {
+comes_back : (apart : Who → Bool) (me : Who) (seats seats' : Who → Where) (log : List LogItem) → IsOrderlyBut (besides apart me) seats log → OnlyMoves me seats seats' → IsAt me (seats' me) log → KeepsBy me log → Operates me log → IsOrderlyBut apart seats' log
+comes_back apart me seats seats' log o others s k does = record {
   keep = λ who known. keep_by who known (same_seat me who) refl;
+  operate = λ who known. operate_by who known (same_seat me who) refl;
   there = λ who known goes. there_by who known goes (same_seat me who) refl;
   order = o.order;
 }
@@ -108,6 +115,10 @@ comes_back apart me seats seats' log o others s k = record {
     keep_by : (who : Who) → apart who ≡ false → (b : Bool) → same_seat me who ≡ b → KeepsBy who log
     keep_by who known true e = subst (λ (w : Who). KeepsBy w log) (same_seat-true me who e) k
     keep_by who known false e = o.keep who (or_known (apart who) (same_seat me who) known e)
+
+    operate_by : (who : Who) → apart who ≡ false → (b : Bool) → same_seat me who ≡ b → Operates who log
+    operate_by who known true e = subst (λ (w : Who). Operates w log) (same_seat-true me who e) does
+    operate_by who known false e = o.operate who (or_known (apart who) (same_seat me who) known e)
 
     there_by : (who : Who) → apart who ≡ false → GoesOn log who → (b : Bool) → same_seat me who ≡ b → IsAt who (seats' who) log
     there_by who known goes true e = subst (λ (w : Who). IsAt w (seats' w) log) (same_seat-true me who e) s
@@ -121,16 +132,17 @@ pub own_items_pass : (apart : Who → Bool) (me : Who) (seats seats' : Who → W
 own_items_pass apart me seats seats' log news o known mine legal leads others =
     let set : besides apart me me ≡ true = or_true (apart me) (same_seat me me) (seat_self me) in
     let aside = all_apart_pass (besides apart me) me seats log news (steps_aside apart me seats log o) set mine (follow (past log) news legal) in
-    comes_back apart me seats seats' (log ++ news) aside others leads.1 (keeps_by_own me log news (o.keep me known) leads.0)
+    comes_back apart me seats seats' (log ++ news) aside others leads.1 (keeps_by_own me log news (o.keep me known) leads.0) (leads.2 (o.operate me known))
 
 -- it is at another place without an item: a machine was made, or has said what comes next
 pub seat_moves : (apart : Who → Bool) (me : Who) (seats seats' : Who → Where) (log : List LogItem) → IsOrderlyBut apart seats log → apart me ≡ false → IsAt me (seats' me) log → OnlyMoves me seats seats' → IsOrderlyBut apart seats' log
-seat_moves apart me seats seats' log o known s others = comes_back apart me seats seats' log (steps_aside apart me seats log o) others s (o.keep me known)
+seat_moves apart me seats seats' log o known s others = comes_back apart me seats seats' log (steps_aside apart me seats log o) others s (o.keep me known) (o.operate me known)
 
 -- seats of a process that was stopped are anywhere
 pub stopped_move : (apart : Who → Bool) (seats seats' : Who → Where) (log : List LogItem) → ((who : Who) → GoesOn log who → seats' who ≡ seats who) → IsOrderlyBut apart seats log → IsOrderlyBut apart seats' log
 stopped_move apart seats seats' log same o = record {
   keep = o.keep;
+  operate = o.operate;
   there = λ who known goes. subst (λ (place : Where). IsAt who place log) (sym (same who goes)) (o.there who known goes);
   order = o.order;
 }
@@ -190,3 +202,7 @@ pub none_is_apart : (seats : Who → Where) (log : List LogItem) → IsOrderlyBu
 none_is_apart seats log o =
     let keeps : Cooperating log = all_cooperate (λ who. false) seats log o (λ who set. absurd (false≢true set)) in
     record { cooperating = keeps; order = o.order keeps; stand = λ who goes. (o.there who refl goes).stand keeps }
+
+-- each seat that isn't set apart does what its requests ask for
+pub all_operate : AllOperate
+all_operate apart seats log o who known = o.operate who known

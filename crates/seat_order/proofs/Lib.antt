@@ -1,5 +1,12 @@
+pub mod Making
+pub mod Tallying
+pub mod Running
+pub mod Giving
+pub mod Insides
+pub mod Placed
 pub mod Readying
 pub mod Parting
 pub mod Mine
+pub mod Doing
 pub mod Moving
 pub mod Coming

@@ -1,5 +1,5 @@
 -- How a seat's own items and those of others lead on from where it is ready. No rule among seats is asked for.
-use Rattle.std.proofs.Common.{◌≡◌, ◌<◌, ◌+◌, inl, inr, ℕ, true, false, List, [], ◌∷◌, length, get_or, refl, sym, subst, arith}
+use Rattle.std.proofs.Common.{◌≡◌, ◌<◌, ◌+◌, inr, ℕ, true, false, List, [], length, get_or, refl, sym, subst}
 use Rattle.cache_types.specs.declared.answer.Answer.{Answer}
 use Rattle.cache_types.specs.declared.answer.Answer.TheVariants as answers
 use Rattle.cache_types.specs.declared.request.Request.{Request}
@@ -9,9 +9,7 @@ use Rattle.file_log.specs.declared.call.Call.TheVariants as calls
 use Rattle.file_log.specs.declared.item.LogItem.{LogItem}
 use Rattle.file_log.specs.declared.item.LogItem.TheVariants as items
 use Rattle.file_log.specs.declared.reply.Reply.{Reply}
-use Rattle.file_log.specs.declared.reply.Reply.TheVariants as replies
 use Rattle.file_log.specs.declared.ticket.Ticket.{Ticket}
-use Rattle.file_log.specs.Exchange.{Answers}
 use Rattle.file_log.specs.Legal.{Legal}
 use Rattle.file_log.specs.Log.{History, with_items, is_own, is_stop}
 use Rattle.file_log.specs.Seat.{MayCall, course_of}
@@ -28,8 +26,14 @@ use Rattle.op_machine.specs.Machine.{asks, asked, Fed, slots, hurt}
 use Rattle.op_machine.specs.Places.{Where, Leads}
 use Rattle.op_machine.specs.Requests.{IsOpOf}
 use Rattle.op_machine.proofs.Starting.{starts_empty}
-use Rattle.op_machine.proofs.Slots.{HasSlots, HasThose, other_keeps, none_other, none_still, byte_keeps, begun_has, machine_may, machine_done, machine_goes}
+use Rattle.op_machine.proofs.Slots.{HasThose, other_keeps, none_other, none_still, byte_keeps, begun_has, machine_may, machine_done, machine_goes}
 use Rattle.seat_order.specs.Ready.{IsCalling, IsReady}
+use Rattle.seat_order.proofs.Making.{place_at_first, answers_so}
+
+-- a step after which the call goes on leads to the call's next item
+pub leads_more : (n : Op) (call : Call) (done : ℕ) (place : Where) → Leads n call done progresses.More place → Where.Within n call (done + 1) ≡ place
+leads_more n call done (Where.Within n' call' done') leads = rw (leads.0, leads.1, leads.2) refl
+leads_more n call done place leads = absurd leads
 
 module _ (me : Who) where
   -- before any item it is in no operation
@@ -59,27 +63,18 @@ module _ (me : Who) where
   pub ready_none : (request : Request) (h : History) → IsReady me (Where.Begun request) h → IsReady me (Where.Ending answers.NoMemory) h
   ready_none request h s = record { filled = s.filled; inside = s.inside; covers = λ e. refl }
 
-  at_first : (call : Call) → IsPlace call 0
-  at_first (calls.WriteAt slot at []) = inl refl
-  at_first (calls.WriteAt slot at (v ∷ vs)) = inr (omega arith)
-  at_first call = tt
-
   -- it asks for a call, of which nothing is made yet
   pub ready_asks : (m : Op) (call : Call) (h : History) → asks m ≡ Ask call → IsReady me (Where.Between m) h → IsReady me (Where.Within (asked m) call 0) h
-  ready_asks m call h e s = record { m = m; asked_is = refl; asks_so = e; place = at_first call; seen = s }
+  ready_asks m call h e s = record { m = m; asked_is = refl; asks_so = e; place = place_at_first me call; seen = s }
 
   -- it gives its answer
   pub ready_gives : (m : Op) (given : Answer) (h : History) → asks m ≡ Done given → IsReady me (Where.Between m) h → IsReady me (Where.Ending given) h
   ready_gives m given h e s = machine_done me m given h e s
 
-  answers_so : (call : Call) (done : ℕ) (reply : Reply) → StepFits (progresses.Reply reply) true call done → Answers true call reply
-  answers_so call done replies.Done fits = fits.0
-  answers_so call done reply fits = fits
-
   answered : (n : Op) (call : Call) (done : ℕ) (reply : Reply) (n' : Op) (h : History) → IsCalling me n call done h → StepFits (progresses.Reply reply) true call done → Legal (state_of h) (step_items (progresses.Reply reply) me true call done) → Fed n reply n'
       → HasThose me n' (with_items h (step_items (progresses.Reply reply) me true call done))
   answered n call done reply n' h w fits legal fed =
-      machine_goes me w.m n' call reply done h w.asks_so w.seen (subst (λ (z : Op). Fed z reply n') (sym w.asked_is) fed) (answers_so call done reply fits) legal
+      machine_goes me w.m n' call reply done h w.asks_so w.seen (subst (λ (z : Op). Fed z reply n') (sym w.asked_is) fed) (answers_so me true call done reply fits) legal
 
   byte_made : (n : Op) (slot at : ℕ) (bytes : List ℕ) (done : ℕ) (h : History) → IsCalling me n (calls.WriteAt slot at bytes) done h → done + 1 < length bytes
       → IsCalling me n (calls.WriteAt slot at bytes) (done + 1) (with_item h (items.Byte me slot (at + done) (get_or bytes done 0)))
@@ -91,15 +86,10 @@ module _ (me : Who) where
     seen = byte_keeps me (slots w.m) (hurt w.m) h slot (at + done) (get_or bytes done 0) w.seen;
   }
 
-  place_is : (place : Where) (n : Op) (call : Call) (done : ℕ) (h : History) → Leads n call done progresses.More place → IsReady me (Where.Within n call (done + 1)) h → IsReady me place h
-  place_is (Where.Within n' call' done') n call done h leads s =
-      subst (λ (k : ℕ). IsReady me (Where.Within n' call' k) h) (sym leads.2) (subst (λ (c : Call). IsReady me (Where.Within n' c (done + 1)) h) (sym leads.1) (subst (λ (m : Op). IsReady me (Where.Within m call (done + 1)) h) (sym leads.0) s))
-  place_is place n call done h leads s = absurd leads
-
   goes_more : (n : Op) (call : Call) (done : ℕ) (place : Where) (h : History) → IsReady me (Where.Within n call done) h → StepFits progresses.More true call done → Leads n call done progresses.More place
       → IsReady me place (with_items h (step_items progresses.More me true call done))
   goes_more n (calls.WriteAt slot at bytes) done place h w more leads =
-      place_is place n (calls.WriteAt slot at bytes) done (with_item h (items.Byte me slot (at + done) (get_or bytes done 0))) leads (byte_made n slot at bytes done h w more)
+      subst (λ (p : Where). IsReady me p (with_item h (items.Byte me slot (at + done) (get_or bytes done 0)))) (leads_more n (calls.WriteAt slot at bytes) done place leads) (byte_made n slot at bytes done h w more)
   goes_more n call done place h w more leads = absurd more
 
   -- one step of a call

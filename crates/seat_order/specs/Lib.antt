@@ -1,3 +1,5 @@
 pub mod Ready
+pub mod Operating
+pub mod Doing
 pub mod Apart
 pub mod Laws

@@ -32,6 +32,7 @@ others_keep outsider me w seats a out =
       legal = a.legal;
       keep = others;
       all = λ mine. all_keep me w.past.log others mine;
+      operations = λ who other. a.orderly.operate who (ap (is_seat who) out ∙ other);
     }
 
 -- the same of what the files show

@@ -1,5 +1,4 @@
 pub mod Seeing
-pub mod Making
 pub mod Calling
 pub mod Playing
 pub mod Keeping

@@ -13,6 +13,7 @@ use Rattle.file_log.specs.State.{first, state_of}
 use Rattle.file_log.specs.Told.{Called}
 use Rattle.file_model.specs.Seeing.{seen_of}
 use Rattle.folder_rules.specs.Places.{past, Cooperating, KeepsBy}
+use Rattle.seat_order.specs.Operating.{Operates}
 
 -- so many bytes does a call write
 abbrev pub bytes_in : Call → ℕ
@@ -31,8 +32,10 @@ pub record Tells (me : Who) (call : Call) (reply : Reply) (old new : History) : 
   pub goes_on : GoesOn me new
 
 -- The log began on an empty disk and can be, and no other seat is the first to break a rule: where this seat isn't either, no place breaks one.
+-- Each operation of another seat makes few calls, in its store's root, and ends with an answer of its request whose cause is among its own items.
 pub record OthersKeep (me : Who) (h : History) : Type 0 where
   pub start : h ≡ past h.log
   pub legal : Legal (first []) h.log
   pub keep : (who : Who) → same_seat who me ≡ false → KeepsBy who h.log
   pub all : KeepsBy me h.log → Cooperating h.log
+  pub operations : (who : Who) → same_seat who me ≡ false → Operates who h.log

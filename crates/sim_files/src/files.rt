@@ -74,7 +74,8 @@ impl SimFiles {
     }
 
     /// What is known of the others at any time: the log can be, no seat but the one that calls is the first
-    /// to break a rule among seats, and where that one isn't either, no place breaks one.
+    /// to break a rule among seats, and where that one isn't either, no place breaks one. Each operation of
+    /// another seat makes few calls, and ends with an answer of its request.
     pub fn others_keep(&self)
         ensures { OthersKeep self.now.me self.now.world.past }
     {

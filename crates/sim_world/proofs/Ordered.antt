@@ -18,6 +18,7 @@ use Rattle.op_machine.specs.Machine.{asks, asked}
 use Rattle.op_machine.specs.Places.{Where}
 use Rattle.op_machine.proofs.Orderly.{OnlyMoves}
 use Rattle.seat_order.specs.Apart.{IsAt, IsOrderlyBut}
+use Rattle.seat_order.specs.Operating.{Operates}
 use Rattle.seat_order.specs.Ready.{IsReady}
 use Rattle.seat_order.proofs.Readying.{ready_may_call, ready_place, ready_ending}
 use Rattle.seat_order.proofs.Moving.{at_asks, at_gives}
@@ -133,3 +134,7 @@ unseated_seated {apart = apart} w seats x a none legal = record {
 pub alone_cooperate : (outsider : Option Who) (w : Held) (seats : List Seat) → AreSeated (apart_of outsider) w seats → outsider ≡ None → Cooperating w.past.log
 alone_cooperate outsider w seats a none =
     (none_is_apart (seats_at seats) w.past.log (subst (λ (o : Option Who). IsOrderlyBut (apart_of o) (seats_at seats) w.past.log) none a.orderly)).cooperating
+
+-- and each operation does what its request asks for
+pub alone_operate : (outsider : Option Who) (w : Held) (seats : List Seat) → AreSeated (apart_of outsider) w seats → outsider ≡ None → (who : Who) → Operates who w.past.log
+alone_operate outsider w seats a none who = a.orderly.operate who (ap (λ (o : Option Who). apart_of o who) none)

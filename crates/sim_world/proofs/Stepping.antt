@@ -139,7 +139,7 @@ module _ {apart : Who → Bool} (who : Who) (w w' : Held) (seats seats' : List S
       let wants : IsAt who (where_in (asks m) (asked m) 0) after_it = wants_next who m after_it (at_machine who after_it request m built b.is_first.1 begun.1) in
       let stands : IsAt who (where_of task) after_it = subst (λ (o : Operation). IsAt who (where_of (Some (tasks.Begun o))) after_it) (sym b.is_first.2) wants in
       one_comes task x e tt b.told_is b.legal
-      (own_items_pass apart who (seats_at seats) (seats_at seats') log (x ∷ []) a.orderly known (seat_self who, tt) (can, tt) (begun.0, stands_now task after_it e stands) others)
+      (own_items_pass apart who (seats_at seats) (seats_at seats') log (x ∷ []) a.orderly known (seat_self who, tt) (can, tt) (begun.0, stands_now task after_it e stands, begun.2) others)
 
   same_by : (task : Task) (v : Who) (b : Bool) → same_seat v who ≡ b → task_of seats who ≡ Some task → cond b (Some task) (task_of seats v) ≡ task_of seats v
   same_by task v true e at = sym (ap (task_of seats) (same_seat-true v who e) ∙ at)
@@ -165,7 +165,7 @@ module _ {apart : Who → Bool} (who : Who) (w w' : Held) (seats seats' : List S
       let can : IsLegal (state_of (past log)) item = subst (λ (s : State). IsLegal s item) (state_is w a.start) x.legal in
       let ended = at_ends who log given x.answer s x.answer_is can in
       one_comes None item e tt x.told_is x.legal
-      (own_items_pass apart who (seats_at seats) (seats_at seats') log (item ∷ []) a.orderly known (seat_self who, tt) (can, tt) (ended.0, stands_now None (log ++ item ∷ []) e ended.1) others)
+      (own_items_pass apart who (seats_at seats) (seats_at seats') log (item ∷ []) a.orderly known (seat_self who, tt) (can, tt) (ended.0, stands_now None (log ++ item ∷ []) e ended.1, ended.2) others)
 
   -- what a step tells while its operation is open
   abbrev pub news : Progress → Call → ℕ → List LogItem

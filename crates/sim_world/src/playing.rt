@@ -10,8 +10,9 @@ use std::alloc::Global;
 /// Plays a schedule from an empty world on: each seat does the requests that it is given, one item of the
 /// log a step.
 ///
-/// The log of the world follows the schedule, and no place of it breaks a rule among seats. A failure is in
-/// it only where the schedule has one.
+/// The log of the world follows the schedule, and no place of it breaks a rule among seats. Each operation
+/// makes few calls, all in its store's root, and ends with an answer of its request whose cause is among its
+/// own items. A failure is in the log only where the schedule has one.
 ///
 /// # Errors
 ///

@@ -5,7 +5,7 @@ use Rattle.sim_world.specs.declared.turn.Turn.{Turn}
 use Rattle.sim_world.specs.Played.{concerns, Comes}
 use Rattle.sim_world.specs.Scene.{opening}
 use Rattle.sim_world.specs.Stages.{scene_of}
-use Rattle.sim_world.proofs.Ordered.{alone_cooperate}
+use Rattle.sim_world.proofs.Ordered.{alone_cooperate, alone_operate}
 use Rattle.sim_world.proofs.Schedules.{comes_next}
 use Rattle.sim_world.proofs.playing.play.Goals as goal
 
@@ -32,4 +32,5 @@ returns c =
       legal = seated.legal;
       played = (scene_of stage, subst (λ (turns : List Turn). Comes opening turns (scene_of stage)) (take_all c.loop-turn.turn-index schedule end) kept.comes, refl);
       cooperating = alone_cooperate stage.outsider stage.world stage.seats.items seated kept.outsider;
+      operations = alone_operate stage.outsider stage.world stage.seats.items seated kept.outsider;
     }
