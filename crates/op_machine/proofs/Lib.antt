@@ -4,3 +4,4 @@ pub mod Starting
 pub mod Standing
 pub mod Orderly
 pub mod WholeOperation
+pub mod Making

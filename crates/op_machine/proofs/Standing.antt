@@ -1,5 +1,5 @@
 -- Where a seat stands between two items of the log among seats that keep the rules, and how its own items and those of others lead on.
-use Rattle.std.proofs.Common.{◌≡◌, ◌<◌, ◌+◌, inl, inr, ℕ, zero, suc, true, false, nat_eq, List, [], ◌∷◌, ◌++◌, length, take, get_or, Some, refl, sym, ap, ◌∙◌, subst, append_assoc, arith}
+use Rattle.std.proofs.Common.{◌≡◌, ◌<◌, ◌+◌, inr, ℕ, true, false, List, [], ◌∷◌, ◌++◌, length, get_or, Some, refl, sym, ap, ◌∙◌, subst, append_assoc, arith}
 use Rattle.cache_types.specs.declared.answer.Answer.{Answer}
 use Rattle.cache_types.specs.declared.answer.Answer.TheVariants as answers
 use Rattle.cache_types.specs.declared.request.Request.{Request}
@@ -36,17 +36,13 @@ use Rattle.op_machine.specs.Machine.{asks, asked, Fed, slots, hurt}
 use Rattle.op_machine.specs.Places.{Where, Leads}
 use Rattle.op_machine.specs.Requests.{IsBuilt, IsOpOf}
 use Rattle.op_machine.proofs.Known as known
+use Rattle.op_machine.proofs.Making.{none_before, place_at_first, made_all, answers_so}
 use Rattle.op_machine.proofs.Starting.{starts, starts_empty}
 use Rattle.op_machine.proofs.Slots.{HasSlots, HasNone, HasThose, other_keeps, none_other, none_still, byte_keeps, begun_has, machine_may, machine_done, machine_goes}
-use Rattle.std.proofs.Common.{◌⊎◌}
-use Rattle.std.proofs.Math.Seq.{take-length}
-use Rattle.std.proofs.lemmas.Bool.{ne_eqb}
 use Rattle.std.proofs.lemmas.List.Sums.{fold-append}
 use Rattle.std.specs.Prelude.{fold}
-use Rattle.file_log.specs.Exchange.{MayGet, MayNumber, MayList, items_done, byte_items}
 use Rattle.file_log.specs.Seat.{Course, course_after}
 use Rattle.file_log.proofs.All.{seat_self}
-use Rattle.file_model.specs.Steps.{IsLast, done_items}
 use Rattle.world_tables.proofs.Runs.{byte_items-next}
 use Rattle.folder_rules.proofs.Histories.{goes_by}
 use Rattle.folder_store.proofs.Keeping.{follow, still_rules, within_inner}
@@ -117,15 +113,6 @@ module _ (me : Who) where
 
   -- ---- its calls
 
-  none_before : (call : Call) → items_before me call 0 ≡ []
-  none_before (calls.WriteAt slot at bytes) = refl
-  none_before call = refl
-
-  at_first : (call : Call) → IsPlace call 0
-  at_first (calls.WriteAt slot at []) = inl refl
-  at_first (calls.WriteAt slot at (v ∷ vs)) = inr (omega arith)
-  at_first call = tt
-
   -- it asks for a call, of which nothing is made yet
   pub asks_call : (m : Op) (call : Call) (h : History) → asks m ≡ Ask call → Stands (Where.Between m) h → Stands (Where.Within (asked m) call 0) h
   asks_call m call h e b = record {
@@ -136,10 +123,10 @@ module _ (me : Who) where
     making = record {
       asks_so = e;
       goes = λ reply made rest fits makes is.
-          let all : made ≡ rest = is ∙ ap (λ (l : List LogItem). l ++ rest) (none_before call) in
+          let all : made ≡ rest = is ∙ ap (λ (l : List LogItem). l ++ rest) (none_before me call) in
           subst (λ (l : List LogItem). known.During me b.0 m call reply l h) all ((known.inductive me b.0).enters m call reply made h b.1 e fits makes);
     };
-    place = at_first call;
+    place = place_at_first me call;
     seen = b.2;
   }
 
@@ -157,64 +144,8 @@ module _ (me : Who) where
       let on = go_over request m call reply news (with_item h x) g.1 legal.1 in
       ((g.0, on.0), on.1)
 
-  -- what a call that is not a write makes before its reply
-  plain_missing : (call : Call) (done : ℕ) → Answers true call replies.Missing → items_before me call done ≡ []
-  plain_missing (calls.OpenOld slot name) done fits = refl
-  plain_missing call done fits = absurd fits
-
-  plain_held : (call : Call) (done : ℕ) → Answers true call replies.Held → items_before me call done ≡ []
-  plain_held (calls.TryLock slot) done fits = refl
-  plain_held call done fits = absurd fits
-
-  plain_got : (call : Call) (done n : ℕ) → MayGet call n → items_before me call done ≡ []
-  plain_got (calls.ReadAt slot at k) done n fits = refl
-  plain_got call done n fits = absurd fits
-
-  plain_number : (call : Call) (done : ℕ) → MayNumber call → items_before me call done ≡ []
-  plain_number (calls.Length slot) done fits = refl
-  plain_number calls.Now done fits = refl
-  plain_number call done fits = absurd fits
-
-  plain_keys : (call : Call) (done : ℕ) → MayList call → items_before me call done ≡ []
-  plain_keys (calls.ListFolder root byte) done fits = refl
-  plain_keys call done fits = absurd fits
-
   byte : ℕ → ℕ → List ℕ → ℕ → LogItem
   byte slot at bytes done = items.Byte me slot (at + done) (get_or bytes done 0)
-
-  -- the last byte of a write, or the item of an empty one
-  last_made : (slot at : ℕ) (bytes : List ℕ) (done : ℕ) → (bytes ≡ []) ⊎ (done + 1 ≡ length bytes) → items_before me (calls.WriteAt slot at bytes) done ++ done_items me (calls.WriteAt slot at bytes) done ≡ items_done me (calls.WriteAt slot at bytes)
-  last_made slot at bytes done (inl empty) = subst (λ (b : List ℕ). items_before me (calls.WriteAt slot at b) done ++ done_items me (calls.WriteAt slot at b) done ≡ items_done me (calls.WriteAt slot at b)) (sym empty) (none done)
-    where
-      none : (k : ℕ) → items_before me (calls.WriteAt slot at []) k ++ done_items me (calls.WriteAt slot at []) k ≡ items_done me (calls.WriteAt slot at [])
-      none zero = refl
-      none (suc k) = refl
-  last_made slot at bytes done (inr last) =
-      let filled : nat_eq (length bytes) 0 ≡ false = ne_eqb (length bytes) 0 (λ e. absurd (omega (arith, e, last))) in
-      let next = byte_items-next me slot at done (length bytes) bytes (omega (arith, last)) (sym last) in
-      let whole : byte_items me slot at (take (length bytes) bytes) ≡ byte_items me slot at bytes = ap (byte_items me slot at) (take-length bytes) in
-      rw filled (sym next ∙ whole)
-
-  made_done : (call : Call) (done : ℕ) → IsLast call done → items_before me call done ++ done_items me call done ≡ items_done me call
-  made_done (calls.WriteAt slot at bytes) done last = last_made slot at bytes done last
-  made_done (calls.OpenOld slot name) done last = refl
-  made_done (calls.OpenNew slot name) done last = refl
-  made_done call done last = refl
-
-  -- a call that is answered so has made these items
-  made_all : (call : Call) (done : ℕ) (reply : Reply) → StepFits (progresses.Reply reply) true call done → Makes me true call reply (items_before me call done ++ step_items (progresses.Reply reply) me true call done)
-  made_all call done replies.Done fits = made_done call done fits.1
-  made_all call done replies.Failed fits = (done, refl)
-  made_all call done replies.NoMemory fits = (done, refl)
-  made_all call done replies.Missing fits = ap (λ (l : List LogItem). l ++ items.Did me call replies.Missing ∷ []) (plain_missing call done fits)
-  made_all call done replies.Held fits = ap (λ (l : List LogItem). l ++ items.Did me call replies.Held ∷ []) (plain_held call done fits)
-  made_all call done (replies.Got bytes) fits = ap (λ (l : List LogItem). l ++ items.Did me call (replies.Got bytes) ∷ []) (plain_got call done (length bytes) fits)
-  made_all call done (replies.Number n) fits = ap (λ (l : List LogItem). l ++ items.Did me call (replies.Number n) ∷ []) (plain_number call done fits)
-  made_all call done (replies.Keys keys) fits = ap (λ (l : List LogItem). l ++ items.Did me call (replies.Keys keys) ∷ []) (plain_keys call done fits)
-
-  answers_so : (call : Call) (done : ℕ) (reply : Reply) → StepFits (progresses.Reply reply) true call done → Answers true call reply
-  answers_so call done replies.Done fits = fits.0
-  answers_so call done reply fits = fits
 
   -- what a step did: its items keep the rules, and the seat stands at the place that it leads to
   abbrev pub Steps : Op → Call → ℕ → Progress → Where → History → Type 0
@@ -226,11 +157,11 @@ module _ (me : Who) where
       → Steps n call done (progresses.Reply reply) (Where.Between n') h
   answered n call done reply n' h w fits legal fed =
       let news = step_items (progresses.Reply reply) me true call done in
-      let d = w.making.goes reply (items_before me call done ++ news) news (answers_so call done reply fits) (made_all call done reply fits) refl in
+      let d = w.making.goes reply (items_before me call done ++ news) news (answers_so me true call done reply fits) (made_all me true call done reply fits) refl in
       let g = go_over w.request w.m call reply news h d (follow h news legal) in
       let fed' : Fed (asked w.m) reply n' = subst (λ (z : Op). Fed z reply n') (sym w.asked_is) fed in
       let knows = (known.inductive me w.request).leaves w.m n' call reply (fold with_item h news) g.1 fed' in
-      (g.0, (w.request, subst (known.Between me w.request n') (goes_by h news) knows, machine_goes me w.m n' call reply done h w.making.asks_so w.seen fed' (answers_so call done reply fits) legal))
+      (g.0, (w.request, subst (known.Between me w.request n') (goes_by h news) knows, machine_goes me w.m n' call reply done h w.making.asks_so w.seen fed' (answers_so me true call done reply fits) legal))
 
   -- a byte of the write is made, and others are left
   byte_made : (n : Op) (slot at : ℕ) (bytes : List ℕ) (done : ℕ) (h : History) → IsWithin n (calls.WriteAt slot at bytes) done h → done + 1 < length bytes → CanFollow h (byte slot at bytes done)

@@ -1,4 +1,3 @@
-pub mod Making
 pub mod Tallying
 pub mod Running
 pub mod Giving

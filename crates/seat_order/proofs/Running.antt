@@ -15,6 +15,7 @@ use Rattle.file_log.specs.Exchange.{Answers, Makes, Exchange, items_before}
 use Rattle.files_api.specs.declared.machine.Step.{Step}
 use Rattle.files_api.specs.declared.machine.Step.TheVariants.{Ask, Done}
 use Rattle.files_api.specs.Drive.{Runs, items_of_all}
+use Rattle.folder_rules.specs.Answers.{root_of}
 use Rattle.folder_store.specs.declared.get.Phase.{Phase}
 use Rattle.folder_store.specs.declared.get.Phase.TheVariants as phases
 use Rattle.folder_store.specs.declared.put_phase.Look.TheVariants.{First, Second}
@@ -31,7 +32,7 @@ use Rattle.op_machine.specs.Given.{given_step}
 use Rattle.op_machine.specs.Machine.{asks, asked, Fed, left}
 use Rattle.op_machine.specs.Requests.{IsOpOf}
 use Rattle.seat_order.specs.Doing.{RunsTo, HasCome}
-use Rattle.seat_order.specs.Operating.{AreFew, most_calls, root_of}
+use Rattle.seat_order.specs.Operating.{AreFew, most_calls}
 use Rattle.seat_order.proofs.Tallying.{weights, weights_append, each_append, CallsWithin, AreExchanges, exchanges_count, exchanges_within, under_way, under_way_items, under_way_is}
 
 -- ---- any machine: how many calls are left, and where they are

@@ -11,6 +11,7 @@ use Rattle.file_log.specs.declared.item.LogItem.{LogItem}
 use Rattle.file_log.specs.declared.item.LogItem.TheVariants as items
 use Rattle.file_log.specs.Log.{is_own, own}
 use Rattle.file_log.specs.Operation.{IsWithinRoot, calls_in, is_fault}
+use Rattle.folder_rules.specs.Answers.{root_of}
 use Rattle.folder_rules.specs.Operations.{IsInside}
 use Rattle.folder_store.specs.declared.put_phase.TheConstants.{LOCK_TRIES}
 use Rattle.folder_store.specs.Locking.{HeldInRow, lock_replies}
@@ -25,16 +26,6 @@ abbrev pub most_calls : Request → ℕ
 most_calls (requests.Get store driver key ro) = 4
 most_calls (requests.Put store driver key meta blob limit) = if nat_lt MAX_BLOB (length blob) then 0 else most_put_calls
 most_calls request = 0
-
--- the root that a request speaks of
-abbrev pub root_of : Request → ℕ
-root_of (requests.Get store driver key ro) = store.root
-root_of (requests.Put store driver key meta blob limit) = store.root
-root_of (requests.HasKey root key) = root
-root_of (requests.PutKey root key) = root
-root_of (requests.Keys store driver) = store.root
-root_of (requests.Verify store) = store.root
-root_of (requests.Trim store to) = store.root
 
 -- these items are of at most so many calls, all in its root
 pub record AreFew (request : Request) (made : List LogItem) : Type 0 where

@@ -28,7 +28,7 @@ use Rattle.op_machine.proofs.Orderly.{AreMine}
 use Rattle.seat_order.proofs.Mine.{step_mine}
 use Rattle.sim_files.specs.Seats.{GoesOn, Tells, bytes_in}
 use Rattle.sim_world.specs.declared.stage.Stage.{Stage}
-use Rattle.seat_order.proofs.Making.{none_before, place_at_first, place_then, more_made, made_all, answers_so}
+use Rattle.op_machine.proofs.Making.{none_before, place_at_first, place_then, more_made, made_all, answers_so}
 use Rattle.sim_files.proofs.Seeing.{seen_by_step, others_leave, step_leaves}
 
 -- ---- what is seen

@@ -1,5 +1,5 @@
 -- What a call did that ended in its status and printed what it has to.
-use Rattle.std.proofs.Common.{◌≡◌, ◌⊎◌, inl, inr, ℕ, List, [], Option, Some, ◌∙◌, ap, subst}
+use Rattle.std.proofs.Common.{◌≡◌, ◌⊎◌, inl, inr, ℕ, List, [], Option, Some, ◌∙◌, subst}
 use Rattle.cache_main.specs.Served.{Served}
 use Rattle.cache_main.specs.Top.{IsRefused, IsUnread}
 use Rattle.cache_main.specs.Words.{asked}

@@ -1,4 +1,4 @@
-ghost use Rattle.std.specs.Prelude.{◌≡◌, IfOk, IsTrue, map};
+ghost use Rattle.std.specs.Prelude.{◌≡◌, [], IfOk, IsTrue, map};
 ghost use Rattle.file_log.specs.Seat.{IsIdle};
 ghost use Rattle.report_text.specs.declared.status.Status.{Status};
 ghost use Rattle.test_calls.specs.Ended.{EndedSo};
@@ -24,7 +24,11 @@ pub struct Call<'a> {
 
 impl<'a> Call<'a> {
     /// A call without variables and input that ends in this status and prints nothing.
-    pub fn ends(words: &'a [&'a str], status: Status) -> Call<'a> {
+    pub fn ends(words: &'a [&'a str], status: Status) -> Call<'a>
+        ensures asks { result.words.now ≡ words.now }
+        ensures status { result.status ≡ status }
+        ensures rest { (result.vars.now ≡ []) × (result.input.now ≡ []) × (result.printed.now ≡ []) }
+    {
         Call {
             words,
             vars: &[],
@@ -35,17 +39,26 @@ impl<'a> Call<'a> {
     }
 
     /// The same call under these variables.
-    pub fn under(self, vars: &'a [(&'a str, &'a str)]) -> Call<'a> {
+    pub fn under(self, vars: &'a [(&'a str, &'a str)]) -> Call<'a>
+        ensures vars { result.vars.now ≡ vars.now }
+        ensures rest { result ≡ record self.entry { vars = result.vars } }
+    {
         Call { vars, ..self }
     }
 
     /// The same call with this input.
-    pub fn on(self, input: &'a [u8]) -> Call<'a> {
+    pub fn on(self, input: &'a [u8]) -> Call<'a>
+        ensures input { result.input.now ≡ input.now }
+        ensures rest { result ≡ record self.entry { input = result.input } }
+    {
         Call { input, ..self }
     }
 
     /// The same call, which prints this.
-    pub fn prints(self, printed: &'a [u8]) -> Call<'a> {
+    pub fn prints(self, printed: &'a [u8]) -> Call<'a>
+        ensures printed { result.printed.now ≡ printed.now }
+        ensures rest { result ≡ record self.entry { printed = result.printed } }
+    {
         Call { printed, ..self }
     }
 
