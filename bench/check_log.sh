@@ -1,6 +1,6 @@
 #!/bin/sh
-# Takes how long the verdict on a log takes, at about 10,000 and about 100,000 items of a drawn schedule: three rounds of each, each a run
-# that plays the schedule and judges its log, less a run that plays it alone. Prints each round, the least of each size, and their ratio.
+# Takes how long the verdict on a log takes, at about 10,000 and about 100,000 items of a drawn schedule: the least of five runs that play
+# the schedule and judge its log, less the least of five that play it alone. Prints each round, both differences, and their ratio.
 set -eu
 LC_ALL=C
 export LC_ALL
@@ -24,8 +24,13 @@ seconds() {
     echo "$begun $ended" | awk '{ printf "%.3f", $2 - $1 }'
 }
 
-for turns in 10500 105000; do
-    for round in 1 2 3; do
+# The least of the numbers in a file.
+least() {
+    sort -n "$1" | head -n 1
+}
+
+for turns in 40000 400000; do
+    for round in 1 2 3 4 5; do
         both=$(seconds $turns "$seed")
         grep -q "^verdict good$" printed || {
             echo "bench/check_log.sh: $turns turns: $(tail -n 1 printed)" >&2
@@ -33,10 +38,12 @@ for turns in 10500 105000; do
         }
         alone=$(seconds $turns "$seed" play)
         items=$(sed -n 's/^items //p' printed)
-        judged=$(echo "$both $alone" | awk '{ printf "%.3f", $1 - $2 }')
-        echo "$items items, round $round: played in $alone s, judged in $judged s"
-        echo "$judged" >>"judged.$turns"
+        echo "$items items, round $round: played in $alone s, played and judged in $both s"
+        echo "$both" >>"both.$turns"
+        echo "$alone" >>"alone.$turns"
     done
-    sort -n "judged.$turns" | head -n 1 >"least.$turns"
+    echo "$(least "both.$turns") $(least "alone.$turns")" | awk '{ printf "%.3f\n", $1 - $2 }' >"judged.$turns"
 done
-echo "least: $(cat least.10500) s and $(cat least.105000) s, ratio $(cat least.10500 least.105000 | tr '\n' ' ' | awk '{ printf "%.1f", $2 / ($1 > 0 ? $1 : 0.001) }')"
+few=$(cat judged.40000)
+many=$(cat judged.400000)
+echo "judged in $few s and $many s, ratio $(echo "$few $many" | awk '{ printf "%.1f", $2 / ($1 > 0 ? $1 : 0.001) }')"
