@@ -1,6 +1,6 @@
 #!/bin/sh
-# Takes how long the verdict on a log takes, at about 10,000 and about 100,000 items of a drawn schedule: the least of five runs that play
-# the schedule and judge its log, less the least of five that play it alone. Prints each round, both differences, and their ratio.
+# Takes how long the playing of drawn schedules and the verdict on their logs take, at about 10,000 and about 100,000 items: seconds of the
+# processor of many runs that play and judge, less those of as many that play alone.
 set -eu
 LC_ALL=C
 export LC_ALL
@@ -16,34 +16,32 @@ work=$(mktemp -d)
 trap 'rm -rf "$work"' EXIT
 cd "$work"
 
-# Seconds of a run, by the clock.
+# Seconds of the processor that some runs take, one after another, each for the mean.
 seconds() {
-    begun=$(date +%s.%N)
-    "$program" "$@" >printed
-    ended=$(date +%s.%N)
-    echo "$begun $ended" | awk '{ printf "%.3f", $2 - $1 }'
+    runs=$1
+    shift
+    (
+        for _ in $(seq "$runs"); do
+            "$program" "$@" >printed
+        done
+        times
+    ) | tail -n 1 | tr 'ms' '  ' | awk -v runs="$runs" '{ printf "%.4f", ($1 * 60 + $2 + $3 * 60 + $4) / runs }'
 }
 
-# The least of the numbers in a file.
-least() {
-    sort -n "$1" | head -n 1
+# So many turns, run so often: prints the items, and the seconds that the playing and the verdict take, the latter also to a file.
+measure() {
+    alone=$(seconds "$2" "$1" "$seed" play)
+    both=$(seconds "$2" "$1" "$seed")
+    grep -q "^verdict good$" printed || {
+        echo "bench/check_log.sh: $1 turns: $(tail -n 1 printed)" >&2
+        exit 1
+    }
+    judged=$(echo "$both $alone" | awk '{ printf "%.4f", $1 - $2 }')
+    echo "$1 turns, $(sed -n 's/^items //p' printed) items: played in $alone s, judged in $judged s"
+    echo "$judged" >>judged
 }
 
-for turns in 40000 400000; do
-    for round in 1 2 3 4 5; do
-        both=$(seconds $turns "$seed")
-        grep -q "^verdict good$" printed || {
-            echo "bench/check_log.sh: $turns turns: $(tail -n 1 printed)" >&2
-            exit 1
-        }
-        alone=$(seconds $turns "$seed" play)
-        items=$(sed -n 's/^items //p' printed)
-        echo "$items items, round $round: played in $alone s, played and judged in $both s"
-        echo "$both" >>"both.$turns"
-        echo "$alone" >>"alone.$turns"
-    done
-    echo "$(least "both.$turns") $(least "alone.$turns")" | awk '{ printf "%.3f\n", $1 - $2 }' >"judged.$turns"
-done
-few=$(cat judged.40000)
-many=$(cat judged.400000)
-echo "judged in $few s and $many s, ratio $(echo "$few $many" | awk '{ printf "%.1f", $2 / ($1 > 0 ? $1 : 0.001) }')"
+measure 20000 100
+measure 40000 100
+measure 400000 10
+awk 'NR == 2 { few = $1 } NR == 3 { printf "ratio of the last two verdicts %.1f\n", $1 / few }' judged
