@@ -1,5 +1,5 @@
 -- What the tests of a rename and a removal say of a ledger, they say of the summary that it carries.
-use Rattle.std.proofs.Common.{◌≡◌, ℕ, Bool, List, Option, refl, ap, ap₂, ◌∙◌}
+use Rattle.std.proofs.Common.{◌≡◌, Bool, List, ap, ap₂, ◌∙◌}
 use Rattle.cache_types.specs.declared.name.Name.{Name}
 use Rattle.cache_types.specs.declared.seat.Who.{Who}
 use Rattle.file_log.specs.Disk.{Disk}
