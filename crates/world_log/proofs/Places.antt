@@ -1,5 +1,5 @@
 -- The places of a log and those of its first items.
-use Rattle.std.proofs.Common.{◌≡◌, ℕ, zero, suc, ◌+◌, ◌<◌, ◌≤◌, true, false, List, [], ◌∷◌, take, drop, length, get_or, slice_get, Option, Some, refl, sym, ap, ◌∙◌, subst, arith}
+use Rattle.std.proofs.Common.{◌≡◌, ℕ, zero, suc, ◌+◌, ◌<◌, ◌≤◌, true, false, List, [], ◌∷◌, take, drop, length, get_or, slice_get, Some, refl, sym, ap, ◌∙◌, subst, arith}
 use Rattle.std.proofs.lemmas.Bool.{false≢true}
 use Rattle.std.proofs.lemmas.List.{length-take, take_more, take-append-drop}
 use Rattle.std.proofs.lemmas.List.Sums.{fold-append}
@@ -16,7 +16,7 @@ use Rattle.folder_rules.specs.Promises.{IsLicensed, IsFound}
 use Rattle.folder_rules.specs.Rules.{KeepsRules}
 use Rattle.folder_laws.proofs.Finding.{found}
 use Rattle.folder_laws.proofs.Licensing.{licensed}
-use Rattle.log_summary.specs.Summary.{Summary, nothing, summed, summary_of}
+use Rattle.log_summary.specs.Summary.{nothing, summed, summary_of}
 use Rattle.rule_cases.proofs.Everywhere.{tested_by_cases, tested_along}
 use Rattle.rule_cases.specs.Cases.{passes}
 use Rattle.rule_cases.specs.Laws.{Passed}

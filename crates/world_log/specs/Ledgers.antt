@@ -10,6 +10,7 @@ use Rattle.operation_ledger.specs.Had.{IsNamesHad}
 use Rattle.operation_ledger.specs.Operations.{AreOperations}
 use Rattle.rule_cases.specs.Cases.{is_put_at}
 use Rattle.rule_checks.specs.Tests.{implies, evicts}
+use Rattle.world_log.specs.Grouping.{AreGrouped}
 use Rattle.world_log.specs.declared.ledger.Ledger.{Ledger}
 use Rattle.world_tables.specs.Tables.{disk_at}
 use Rattle.world_tables.specs.declared.tables.Tables.{Tables}
@@ -17,7 +18,7 @@ use Rattle.world_tables.specs.declared.tables.Tables.{Tables}
 -- all but the names that files have had is what the summary says
 pub record CarriesRest (ledger : Ledger) (s : Summary) : Type 0 where
   pub operations : AreOperations ledger.operations s
-  pub puts : ledger.puts.items ≡ s.puts
+  pub puts : AreGrouped ledger.puts.items s.puts
   pub evicting : ledger.evicting.items ≡ s.evicting
   pub rough : ledger.rough ≡ s.rough
 
@@ -30,9 +31,9 @@ pub record Carries (ledger : Ledger) (s : Summary) : Type 0 where
 abbrev pub summary_with : Disk → List BegunPut → List OpenEvict → Bool → Summary
 summary_with d puts evicting rough = record { state = record { disk = d; halted = (first []).halted; waiting = (first []).waiting; used = (first []).used }; had = []; puts = puts; inside = nothing.inside; evicting = evicting; rough = rough }
 
--- what a ledger and the tables of a disk say of puts, Evicts and calm
-abbrev pub told_by : Ledger → Tables → Summary
-told_by ledger tables = summary_with (disk_at tables) ledger.puts.items ledger.evicting.items ledger.rough
+-- what a ledger and the tables of a disk say of Evicts and calm, where these puts began
+abbrev pub told_by : List BegunPut → Ledger → Tables → Summary
+told_by puts ledger tables = summary_with (disk_at tables) puts ledger.evicting.items ledger.rough
 
 -- what an entry's old file holds of a put is held by its new one, or is being evicted by the seat
 abbrev pub keeps_put : List OpenEvict → Who → ℕ → Key → Option (List ℕ) → Option (List ℕ) → BegunPut → Bool

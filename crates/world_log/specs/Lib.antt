@@ -1,3 +1,4 @@
+pub mod Grouping
 pub mod Ledgers
 pub mod Replacing
 pub mod Verdicts

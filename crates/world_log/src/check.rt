@@ -24,7 +24,7 @@ use std::alloc::Global;
 /// such. Else `Good`. No hit is unlicensed and no lookup fails to find before a rule is broken
 /// (`folder_laws::all_are_served`), so legality and the rules alone are tested. What the rules ask of the
 /// log's past is carried along it, not made anew at each place. A rename or a removal of an entry looks at
-/// each put that began, another item at none.
+/// each put that began under its root and key, another item at none.
 ///
 /// # Errors
 ///

@@ -1,13 +1,16 @@
 //! An entry's file comes or goes.
 
-ghost use Rattle.std.specs.Prelude.{◌≡◌, None, Some, IfOk};
+ghost use Rattle.std.specs.Prelude.{◌≡◌, List, None, Some, IfOk};
 ghost use Rattle.std.specs.List.{list_all};
 ghost use Rattle.file_log.specs.Disk.{bytes_in};
+ghost use Rattle.log_summary.specs.Summary.{BegunPut as ThePut};
 ghost use Rattle.rule_cases.specs.Cases as cases;
+ghost use Rattle.world_log.specs.Grouping.{AreGrouped};
 ghost use Rattle.world_log.specs.Ledgers.{keeps_put, told_by};
 ghost use Rattle.world_tables.specs.Tables.{disk_at};
 
 use crate::evictions::is_evicting;
+use crate::groups::puts_under;
 use crate::kinds::folder_lock;
 use crate::ledger::Ledger;
 use crate::looks::{bytes_of, file_named, has_lock, reads};
@@ -36,11 +39,11 @@ impl Ledger {
             || is_evicting(&self.evicting, who, &put.at)
     }
 
-    /// Whether that is so of each put.
-    fn keeps_each(&self, tables: &Tables, who: Who, entry: &EntryChange) -> bool
-        ensures { result ≡ list_all (keeps_put self.now.evicting.items who entry.now.root entry.now.key (bytes_in (disk_at tables.now).files entry.now.old) (bytes_in (disk_at tables.now).files entry.now.new)) self.now.puts.items }
+    /// Whether that is so of each of these puts.
+    fn keeps_all(&self, tables: &Tables, who: Who, entry: &EntryChange, puts: &[BegunPut]) -> bool
+        ensures { result ≡ list_all (keeps_put self.now.evicting.items who entry.now.root entry.now.key (bytes_in (disk_at tables.now).files entry.now.old) (bytes_in (disk_at tables.now).files entry.now.new)) puts.now }
     {
-        let mut rest = self.puts.as_slice();
+        let mut rest = puts;
         while let [first, tail @ ..] = rest {
             if !self.keeps(tables, who, entry, first) {
                 return false;
@@ -48,6 +51,15 @@ impl Ledger {
             rest = tail;
         }
         true
+    }
+
+    /// Whether that is so of each put that began. Looks only at those under the entry's root and key.
+    #[tactic(auto, using(crate::proofs::Grouping::all_kept))]
+    fn keeps_each(&self, tables: &Tables, who: Who, entry: &EntryChange) -> bool
+        ensures { (puts : List ThePut) → AreGrouped self.now.puts.items puts → result ≡ list_all (keeps_put self.now.evicting.items who entry.now.root entry.now.key (bytes_in (disk_at tables.now).files entry.now.old) (bytes_in (disk_at tables.now).files entry.now.new)) puts }
+    {
+        let puts = puts_under(&self.puts, entry.root, entry.key);
+        self.keeps_all(tables, who, entry, puts)
     }
 
     /// Whether nothing of an entry is lost unevicted where it gets this file, or none; or a process was
@@ -60,7 +72,7 @@ impl Ledger {
         key: Key,
         new: Option<usize>,
     ) -> bool
-        ensures { result ≡ cases.loses_nothing (told_by self.now tables.now) who root key (bytes_in (disk_at tables.now).files new) }
+        ensures { (puts : List ThePut) → AreGrouped self.now.puts.items puts → result ≡ cases.loses_nothing (told_by puts self.now tables.now) who root key (bytes_in (disk_at tables.now).files new) }
     {
         let old = file_named(tables, &Name::Entry { root, key });
         let entry = EntryChange {
@@ -83,7 +95,7 @@ impl Ledger {
         from: &Name,
         file: usize,
     ) -> Result<bool, NoMemory>
-        ensures { IfOk result (λ may. may ≡ cases.entry_comes (told_by self.now tables.now) who root key from.now file) }
+        ensures { IfOk result (λ may. (puts : List ThePut) → AreGrouped self.now.puts.items puts → may ≡ cases.entry_comes (told_by puts self.now tables.now) who root key from.now file) }
     {
         if !from.is(&Name::Temp { root, key }) || !has_lock(tables, who, &folder_lock(root, key)) {
             return Ok(false);
@@ -94,7 +106,7 @@ impl Ledger {
 
     /// Whether an entry may go: by the holder of its folder's lock, and nothing is lost.
     pub fn entry_goes(&self, tables: &Tables, who: Who, root: u32, key: Key) -> bool
-        ensures { result ≡ cases.entry_goes (told_by self.now tables.now) who root key }
+        ensures { (puts : List ThePut) → AreGrouped self.now.puts.items puts → result ≡ cases.entry_goes (told_by puts self.now tables.now) who root key }
     {
         has_lock(tables, who, &folder_lock(root, key))
             && self.loses_nothing(tables, who, root, key, None)

@@ -1,7 +1,9 @@
 //! A name is renamed or removed.
 
-ghost use Rattle.std.specs.Prelude.{◌≡◌, IfOk};
+ghost use Rattle.std.specs.Prelude.{◌≡◌, List, IfOk};
+ghost use Rattle.log_summary.specs.Summary.{BegunPut as ThePut};
 ghost use Rattle.rule_cases.specs.Cases as cases;
+ghost use Rattle.world_log.specs.Grouping.{AreGrouped};
 ghost use Rattle.world_log.specs.Ledgers.{told_by};
 ghost use Rattle.world_log.specs.Replacing.{may_replace};
 ghost use Rattle.world_tables.specs.Tables.{disk_at};
@@ -38,7 +40,7 @@ impl Ledger {
         file: usize,
         to: &Name,
     ) -> Result<bool, NoMemory>
-        ensures { IfOk result (λ may. may ≡ cases.comes_well (told_by self.now tables.now) who from.now file to.now) }
+        ensures { IfOk result (λ may. (puts : List ThePut) → AreGrouped self.now.puts.items puts → may ≡ cases.comes_well (told_by puts self.now tables.now) who from.now file to.now) }
     {
         match to {
             Name::Entry { root, key } => self.entry_comes(tables, who, *root, *key, from, file),
@@ -54,7 +56,7 @@ impl Ledger {
         from: &Name,
         to: &Name,
     ) -> Result<bool, NoMemory>
-        ensures { IfOk result (λ may. may ≡ cases.passes_renaming (told_by self.now tables.now) who from.now to.now ((disk_at tables.now).names from.now)) }
+        ensures { IfOk result (λ may. (puts : List ThePut) → AreGrouped self.now.puts.items puts → may ≡ cases.passes_renaming (told_by puts self.now tables.now) who from.now to.now ((disk_at tables.now).names from.now)) }
     {
         let Some(file) = file_named(tables, from) else {
             return Ok(true);
@@ -70,7 +72,7 @@ impl Ledger {
 
     /// Whether a name's file may go, an entry's only as an entry goes.
     fn goes_well(&self, tables: &Tables, who: Who, name: &Name) -> bool
-        ensures { result ≡ cases.goes_well (told_by self.now tables.now) who name.now }
+        ensures { (puts : List ThePut) → AreGrouped self.now.puts.items puts → result ≡ cases.goes_well (told_by puts self.now tables.now) who name.now }
     {
         match name {
             Name::Entry { root, key } => self.entry_goes(tables, who, *root, *key),
@@ -80,7 +82,7 @@ impl Ledger {
 
     /// Whether a name may be removed.
     pub fn passes_removing(&self, tables: &Tables, who: Who, name: &Name) -> bool
-        ensures { result ≡ cases.passes_removing (told_by self.now tables.now) who name.now ((disk_at tables.now).names name.now) }
+        ensures { (puts : List ThePut) → AreGrouped self.now.puts.items puts → result ≡ cases.passes_removing (told_by puts self.now tables.now) who name.now ((disk_at tables.now).names name.now) }
     {
         match file_named(tables, name) {
             None => true,

@@ -7,7 +7,8 @@ ghost use Rattle.world_log.specs.Ledgers.{CarriesRest, Carries};
 ghost use Rattle.world_tables.specs.Tables.{disk_at};
 
 use crate::evictions::{OpenEvict, follow_evict};
-use crate::puts::{BegunPut, follow_put};
+use crate::groups::PutGroup;
+use crate::puts::follow_put;
 use cache_types::NoMemory;
 use file_log::LogItem;
 use operation_ledger::{NamesHad, Operations};
@@ -22,8 +23,8 @@ pub struct Ledger {
     pub names: NamesHad,
     /// The operations that seats are in.
     pub operations: Operations,
-    /// The puts that began, in the order of their Begins.
-    pub puts: Vec<BegunPut>,
+    /// The puts that began, by root and key.
+    pub puts: Vec<PutGroup>,
     /// The open Evicts, the last first.
     pub evicting: Vec<OpenEvict>,
     /// Whether a process was stopped or a call failed.
@@ -61,7 +62,7 @@ impl Ledger {
         ensures { OnOk result ((s : Summary) → CarriesRest self.old s → IsAfter self.old.names tables.now s item.now → Carries self.new (summed s item.now)) }
     {
         self.operations.follow(&self.names, tables, item)?;
-        follow_put(&mut self.puts, item)?;
+        follow_put(self.alloc, &mut self.puts, item)?;
         follow_evict(&mut self.evicting, item)?;
         self.rough = self.rough || is_rough(item);
         Ok(())

@@ -6,6 +6,7 @@ mod changing;
 mod check;
 mod entries;
 mod evictions;
+mod groups;
 mod kinds;
 mod leaving;
 mod ledger;

@@ -1,10 +1,12 @@
-ghost use Rattle.std.specs.Prelude.{◌≡◌, ◌≢◌, ◌++◌, false, Some, IfOk, OnOk, OnErr};
+ghost use Rattle.std.specs.Prelude.{◌≡◌, ◌≢◌, false, List, Some, IfOk, OnOk};
 ghost use Rattle.std.specs.List.{list_any};
-ghost use Rattle.log_summary.specs.Summary.{put_in, put_by, read_for};
+ghost use Rattle.log_summary.specs.Summary.{BegunPut as ThePut, put_in, put_by, read_for};
 ghost use Rattle.rule_cases.specs.Cases as cases;
 ghost use Rattle.rule_checks.specs.Tests as tests;
+ghost use Rattle.world_log.specs.Grouping.{AreGrouped, Gains};
 
 use crate::address::Address;
+use crate::groups::{PutGroup, add, puts_under};
 use crate::same::{same_key, same_store};
 use cache_types::{Bytes, Driver, Key, Layout, NoMemory, Request, Store};
 use file_log::LogItem;
@@ -72,7 +74,7 @@ impl BegunPut {
 }
 
 /// Whether bytes are an item of one of these puts, in this root's folder store under the key.
-pub fn is_put_item(
+fn is_item_of_any(
     alloc: Global,
     puts: &[BegunPut],
     root: u32,
@@ -91,10 +93,24 @@ pub fn is_put_item(
     Ok(false)
 }
 
-/// Adds the put that a request asks for, if it is one. A refusal changes nothing.
-fn begin(puts: &mut Vec<BegunPut>, request: &Request) -> Result<(), NoMemory>
-    ensures ok { OnOk result (puts.new.items ≡ puts.old.items ++ put_by request.now) }
-    ensures err { OnErr result (puts.new.items ≡ puts.old.items) }
+/// Whether bytes are an item of a put that began, in this root's folder store under the key. Looks only at
+/// the puts under that root and key.
+#[tactic(auto, using(crate::proofs::Grouping::any_item))]
+pub fn is_put_item(
+    alloc: Global,
+    groups: &[PutGroup],
+    root: u32,
+    key: Key,
+    bytes: &[u8],
+) -> Result<bool, NoMemory>
+    ensures { IfOk result (λ is. (puts : List ThePut) → AreGrouped groups.now puts → is ≡ list_any (tests.is_item_of root key bytes.now) puts) }
+{
+    is_item_of_any(alloc, puts_under(groups, root, key), root, key, bytes)
+}
+
+/// Adds the put that a request asks for, if it is one.
+fn begin(alloc: Global, groups: &mut Vec<PutGroup>, request: &Request) -> Result<(), NoMemory>
+    ensures { OnOk result (Gains groups.old.items groups.new.items (put_by request.now)) }
 {
     if let Request::Put {
         store,
@@ -107,18 +123,17 @@ fn begin(puts: &mut Vec<BegunPut>, request: &Request) -> Result<(), NoMemory>
     {
         let at = Address::of(*store, driver, *key)?;
         let blob = blob.copy()?;
-        puts.push(BegunPut { at, blob })?;
+        return add(alloc, groups, BegunPut { at, blob });
     }
     Ok(())
 }
 
-/// Goes on over an item: a put begins with its Begin. A refusal changes nothing.
-pub fn follow_put(puts: &mut Vec<BegunPut>, item: &LogItem) -> Result<(), NoMemory>
-    ensures ok { OnOk result (puts.new.items ≡ puts.old.items ++ put_in item.now) }
-    ensures err { OnErr result (puts.new.items ≡ puts.old.items) }
+/// Goes on over an item: a put begins with its Begin.
+pub fn follow_put(alloc: Global, groups: &mut Vec<PutGroup>, item: &LogItem) -> Result<(), NoMemory>
+    ensures { OnOk result (Gains groups.old.items groups.new.items (put_in item.now)) }
 {
     match item {
-        LogItem::Begin { who: _, request } => begin(puts, request),
+        LogItem::Begin { who: _, request } => begin(alloc, groups, request),
         _ => Ok(()),
     }
 }
