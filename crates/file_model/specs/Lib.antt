@@ -1,5 +1,4 @@
 pub mod Calls
-pub mod Halted
 pub mod Operations
 pub mod Room
 pub mod Held

@@ -1,29 +1,30 @@
--- The queues of all processes, as lists of jobs.
-use Rattle.std.specs.Prelude.{◌≡◌, ℕ, ◌+◌, nat_eq, Bool, false, ◌&&◌, ◌||◌, List, [], ◌∷◌, if◌then◌else◌}
+-- The queues of all processes: the tickets that wait in each, and those that it has had.
+use Rattle.std.specs.Prelude.{◌≡◌, ◌↔◌, ℕ, Bool, IsTrue, List, [], Option, Some, None, nat_eq, ◌&&◌}
+use Rattle.std.specs.HashMap.{get}
+use Rattle.std.specs.HashSet.{contains_by}
+use Rattle.std.specs.List.{Contains}
+use Rattle.std.specs.Global.{Vec}
 use Rattle.file_log.specs.declared.ticket.Ticket.{Ticket}
 use Rattle.file_log.specs.State.{State}
-use Rattle.file_model.specs.declared.queues.Job.{Job}
 use Rattle.file_model.specs.declared.queues.Queues.{Queues}
+use Rattle.file_model.specs.declared.queues.UsedTicket.{UsedTicket}
 
--- the tickets of a process's jobs, in their order
-abbrev pub tickets_of : ℕ → List Job → List Ticket
-tickets_of process [] = []
-tickets_of process (job ∷ jobs) = if nat_eq job.process process then job.ticket ∷ tickets_of process jobs else tickets_of process jobs
+abbrev pub items_of : Option (Vec Ticket) → List Ticket
+items_of None = []
+items_of (Some tickets) = tickets.items
 
-abbrev pub same_ticket : Ticket → Ticket → Bool
-same_ticket a b = nat_eq a.side b.side && nat_eq a.number b.number
+-- the tickets that wait in a process's queue
+abbrev pub waiting_in : Queues → ℕ → List Ticket
+waiting_in queues process = items_of (get nat_eq queues.waiting process)
 
--- a job of the process has the ticket
-abbrev pub has_job : ℕ → Ticket → List Job → Bool
-has_job process ticket [] = false
-has_job process ticket (job ∷ jobs) = (nat_eq job.process process && same_ticket job.ticket ticket) || has_job process ticket jobs
+abbrev pub is_of : ℕ → Ticket → UsedTicket → Bool
+is_of process ticket used = nat_eq process used.process && (nat_eq ticket.side used.side && nat_eq ticket.number used.number)
 
--- how many jobs stand before a process's first, all where it has none
-abbrev pub place_in : ℕ → List Job → ℕ
-place_in process [] = 0
-place_in process (job ∷ jobs) = if nat_eq job.process process then 0 else 1 + place_in process jobs
+-- a process's queue has had the ticket
+abbrev pub is_used : Queues → ℕ → Ticket → Bool
+is_used queues process ticket = contains_by (is_of process ticket) queues.used
 
 -- the tickets that wait and those that were used are what the log says
 pub record AreQueues (queues : Queues) (s : State) : Type 0 where
-  pub waiting : (process : ℕ) → s.waiting process ≡ tickets_of process queues.waiting.items
-  pub used : (process : ℕ) → s.used process ≡ tickets_of process queues.used.items
+  pub waiting : (process : ℕ) → s.waiting process ≡ waiting_in queues process
+  pub used : (process : ℕ) (ticket : Ticket) → IsTrue (is_used queues process ticket) ↔ Contains (s.used process) ticket

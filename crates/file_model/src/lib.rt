@@ -2,7 +2,6 @@
 //! items, and the files are what that log leaves of the files that were there at first.
 #![tactic(auto)]
 
-mod halted;
 mod jobs;
 mod legal;
 mod operations;

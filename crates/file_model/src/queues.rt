@@ -1,105 +1,50 @@
-ghost use Rattle.std.specs.Prelude.{◌≡◌, ◌↔◌, ◌+◌, ◌∷◌, ℕ, IsTrue, OnOk, drop, length, if◌then◌else◌, nat_eq};
-ghost use Rattle.std.specs.List.{Contains};
+ghost use Rattle.std.specs.Prelude.{◌≡◌, ◌↔◌, ◌∷◌, ◌++◌, [], ℕ, IsTrue, OnOk, drop, length, nat_eq, if◌then◌else◌};
 ghost use Rattle.cache_types.specs.declared.request.Request.{Request};
 ghost use Rattle.file_log.specs.declared.item.LogItem.TheVariants as items;
 ghost use Rattle.file_log.specs.declared.ticket.Ticket.{Ticket};
 ghost use Rattle.file_log.specs.Disk.{Start};
 ghost use Rattle.file_log.specs.Legal.{IsFront};
 ghost use Rattle.file_log.specs.State.{State, first, after};
-ghost use Rattle.file_model.specs.Queues.{tickets_of, place_in, same_ticket, has_job};
+ghost use Rattle.file_model.specs.Queues.{waiting_in, is_used};
 
 use cache_types::{NoMemory, Who};
 use file_log::{LogItem, Ticket};
 use std::alloc::Global;
+use std::collections::{HashMap, HashSet};
 
-/// A job of a process's queue.
-#[derive(Clone, Copy, Debug, PartialEq, Eq)]
-pub struct Job {
+/// A ticket that a process's queue has had.
+#[derive(Clone, Copy, Debug, PartialEq, Eq, Hash)]
+pub struct UsedTicket {
     pub process: u32,
-    pub ticket: Ticket,
+    pub side: u8,
+    pub number: u64,
 }
 
-/// The queues of all processes: the jobs that wait, in their order, and all that ever did, the last first.
+/// The queues of all processes: the tickets that wait in each, in their order, and all that ever did.
 #[derive(Debug, Drop)]
 pub struct Queues {
-    pub waiting: Vec<Job>,
-    pub used: Vec<Job>,
+    pub alloc: Global,
+    pub waiting: HashMap<u32, Vec<Ticket>>,
+    pub used: HashSet<UsedTicket>,
 }
 
-/// How many jobs of a process there are.
-fn count_of(jobs: &[Job], process: u32) -> usize
-    ensures { result ≡ length (tickets_of process jobs.now) }
+/// Takes the first ticket out, if there is one.
+fn take_first(tickets: &mut Vec<Ticket>)
+    ensures { tickets.new.items ≡ drop 1 tickets.old.items }
 {
-    let mut count: usize = 0;
-    let mut rest = jobs;
-    while let [first, tail @ ..] = rest {
-        if first.process == process {
-            count += 1;
-        }
-        rest = tail;
-    }
-    count
-}
-
-/// Whether a ticket is that of a process's first job.
-fn is_first(jobs: &[Job], process: u32, ticket: Ticket) -> bool
-    ensures { IsTrue result ↔ IsFront (tickets_of process jobs.now) ticket }
-{
-    let mut rest = jobs;
-    while let [first, tail @ ..] = rest {
-        if first.process == process {
-            return first.ticket == ticket;
-        }
-        rest = tail;
-    }
-    false
-}
-
-/// Whether two tickets are one.
-fn is_same(a: Ticket, b: Ticket) -> bool
-    ensures { result ≡ same_ticket a b }
-{
-    a.side == b.side && a.number == b.number
-}
-
-/// Whether a job of a process has a ticket.
-fn is_there(jobs: &[Job], process: u32, ticket: Ticket) -> bool
-    ensures { result ≡ has_job process ticket jobs.now }
-{
-    let mut rest = jobs;
-    while let [first, tail @ ..] = rest {
-        if first.process == process && is_same(first.ticket, ticket) {
-            return true;
-        }
-        rest = tail;
-    }
-    false
-}
-
-/// Takes a process's first job out, if there is one.
-fn take_first(jobs: &mut Vec<Job>, process: u32)
-    ensures { (p : ℕ) → tickets_of p jobs.new.items ≡ (if nat_eq process p then drop 1 (tickets_of p jobs.old.items) else tickets_of p jobs.old.items) }
-{
-    let place = place_of(jobs, process);
-    if place < jobs.len() {
-        let _taken = jobs.remove(place);
+    if !tickets.is_empty() {
+        let _taken = tickets.remove(0);
     }
 }
 
-/// How many jobs stand before a process's first.
-fn place_of(jobs: &[Job], process: u32) -> usize
-    ensures { result ≡ place_in process jobs.now }
+/// Whether a ticket is the first of these.
+fn is_first(tickets: &[Ticket], ticket: Ticket) -> bool
+    ensures { IsTrue result ↔ IsFront tickets.now ticket }
 {
-    let mut place: usize = 0;
-    let mut rest = jobs;
-    while let [first, tail @ ..] = rest {
-        if first.process == process {
-            return place;
-        }
-        place += 1;
-        rest = tail;
+    match tickets {
+        [] => false,
+        [first, ..] => *first == ticket,
     }
-    place
 }
 
 impl Queues {
@@ -110,46 +55,77 @@ impl Queues {
         ensures { (start : Start) → AreQueues result (first start) }
     {
         Queues {
-            waiting: Vec::new(alloc),
-            used: Vec::new(alloc),
+            alloc,
+            waiting: HashMap::new(alloc),
+            used: HashSet::new(alloc),
         }
     }
 
     /// How many jobs of a process wait.
     pub fn waiting_len(&self, process: u32) -> usize
-        ensures { result ≡ length (tickets_of process self.now.waiting.items) }
+        ensures { result ≡ length (waiting_in self.now process) }
     {
-        count_of(&self.waiting, process)
+        match self.waiting.get(&process) {
+            None => 0,
+            Some(tickets) => tickets.len(),
+        }
     }
 
     /// Whether a ticket is that of the front job of a process's queue.
     pub fn is_front(&self, process: u32, ticket: Ticket) -> bool
-        ensures { IsTrue result ↔ IsFront (tickets_of process self.now.waiting.items) ticket }
+        ensures { IsTrue result ↔ IsFront (waiting_in self.now process) ticket }
     {
-        is_first(&self.waiting, process, ticket)
+        match self.waiting.get(&process) {
+            None => false,
+            Some(tickets) => is_first(tickets, ticket),
+        }
     }
 
     /// Whether a process's queue has had a ticket.
     pub fn was_used(&self, process: u32, ticket: Ticket) -> bool
-        ensures { IsTrue result ↔ Contains (tickets_of process self.now.used.items) ticket }
+        ensures { result ≡ is_used self.now process ticket }
     {
-        is_there(&self.used, process, ticket)
+        self.used.contains(&UsedTicket {
+            process,
+            side: ticket.side,
+            number: ticket.number,
+        })
+    }
+
+    /// Puts a ticket at the end of those that wait in a process's queue.
+    fn wait(&mut self, process: u32, ticket: Ticket) -> Result<(), NoMemory>
+        ensures waits { OnOk result ((p : ℕ) → waiting_in self.new p ≡ (if nat_eq process p then waiting_in self.old p ++ ticket ∷ [] else waiting_in self.old p)) }
+        ensures used { self.new.used ≡ self.old.used }
+    {
+        if let Some(tickets) = self.waiting.get_mut(&process) {
+            tickets.push(ticket)?;
+            return Ok(());
+        }
+        let mut tickets = Vec::new(self.alloc);
+        tickets.push(ticket)?;
+        self.waiting.insert(process, tickets)?;
+        Ok(())
     }
 
     /// Puts a job at the end of its process's queue.
-    fn put(&mut self, job: Job) -> Result<(), NoMemory>
-        ensures { OnOk result ((s : State) (request : Request) → AreQueues self.old s → AreQueues self.new (after s (items.Queued job.process job.ticket request))) }
+    fn put(&mut self, process: u32, ticket: Ticket) -> Result<(), NoMemory>
+        ensures { OnOk result ((s : State) (request : Request) → AreQueues self.old s → AreQueues self.new (after s (items.Queued process ticket request))) }
     {
-        self.used.insert(0, job)?;
-        self.waiting.push(job)?;
-        Ok(())
+        self.used.insert(UsedTicket {
+            process,
+            side: ticket.side,
+            number: ticket.number,
+        })?;
+        self.wait(process, ticket)
     }
 
     /// Takes the front job out of a process's queue.
     fn take(&mut self, who: Who)
         ensures { (s : State) (ticket : Ticket) → AreQueues self.old s → AreQueues self.new (after s (items.Taken who ticket)) }
     {
-        take_first(&mut self.waiting, who.process);
+        if let Some(tickets) = self.waiting.get_mut(&who.process) {
+            take_first(tickets);
+        }
     }
 
     /// Follows an item of the log.
@@ -161,13 +137,7 @@ impl Queues {
                 process,
                 ticket,
                 request: _,
-            } => {
-                self.put(Job {
-                    process: *process,
-                    ticket: *ticket,
-                })?;
-                Ok(())
-            }
+            } => self.put(*process, *ticket),
             LogItem::Taken { who, ticket: _ } => {
                 self.take(*who);
                 Ok(())

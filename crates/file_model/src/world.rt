@@ -15,12 +15,12 @@ ghost use Rattle.world_tables.specs.Tables.{disk_at};
 ghost use Rattle.file_model.specs.Seeing.{seen_by};
 ghost use Rattle.file_model.specs.Starts.{NamesDiffer};
 
-use crate::halted::{halt, is_among};
 use crate::operations::{OpenOperation, begin_in_room, end_in_room, fail_in_room, operation_of};
 use crate::seen::Seen;
 use cache_types::{Answer, Bytes, Driver, Key, Name, NoMemory, Request, Store, Text, Who};
 use file_log::{Call, LogItem, Note, Reply, request_known};
 use std::alloc::Global;
+use std::collections::HashSet;
 use std::marker::Model;
 use world_tables::{Book, Piece, Run, Tables, answer_in_room, install_in_room, list_in_room};
 
@@ -33,7 +33,7 @@ pub struct World {
     start: Vec<(Name, Bytes)>,
     book: Book,
     tables: Tables,
-    halted: Vec<u32>,
+    halted: HashSet<u32>,
     operations: Vec<OpenOperation>,
     clock: u64,
 }
@@ -69,7 +69,7 @@ impl World {
             start: Vec::new(alloc),
             book: Book::new(alloc),
             tables: Tables::new(alloc),
-            halted: Vec::new(alloc),
+            halted: HashSet::new(alloc),
             operations: Vec::new(alloc),
             clock: 0,
         }
@@ -97,7 +97,7 @@ impl World {
             start: files,
             book: Book::new(alloc),
             tables,
-            halted: Vec::new(alloc),
+            halted: HashSet::new(alloc),
             operations: Vec::new(alloc),
             clock,
         })
@@ -128,7 +128,7 @@ impl World {
     pub fn is_halted(&self, process: u32) -> bool
         ensures { result ≡ (state_of self.now.past).halted process }
     {
-        is_among(&self.halted, process)
+        self.halted.contains(&process)
     }
 
     /// Makes a call that makes one item, and tells it with its reply. A refusal changes nothing.
@@ -310,9 +310,8 @@ impl World {
         ensures legal { IsLegal (state_of self.old.past) (items.Stop process) }
         ensures err { OnErr result (self.new ≡ self.old) }
     {
-        self.halted.reserve(1)?;
         self.book.make_room(1)?;
-        halt(&mut self.halted, process);
+        let _added = self.halted.insert(process)?;
         self.tables.stop(process);
         self.book.put(LogItem::Stop { process });
         Ok(())

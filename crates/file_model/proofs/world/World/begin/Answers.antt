@@ -1,8 +1,8 @@
-use Rattle.std.proofs.Common.{◌≡◌, ◌∙◌, ◌++◌, ◌∷◌, [], ◌-◌, List, false, ap, sym, refl, subst, arith}
+use Rattle.std.proofs.Common.{◌≡◌, ◌∙◌, ◌++◌, ◌∷◌, [], ◌-◌, List, false, ap, sym, refl, subst, arith, nat_eq}
+use Rattle.std.specs.HashSet.{contains}
 use Rattle.file_log.specs.declared.item.LogItem.{LogItem}
 use Rattle.file_log.specs.declared.item.LogItem.TheVariants.{Begin}
 use Rattle.file_log.specs.State.{state_of}
-use Rattle.file_model.specs.Halted.{is_among}
 use Rattle.file_model.specs.Held.{Held}
 use Rattle.file_model.specs.Operations.{course_in}
 use Rattle.world_tables.specs.Tables.{disk_at}
@@ -21,7 +21,7 @@ invariant_of-self-2 c =
     let book : c.put.new.self.items ≡ old.book.items ++ item ∷ [] = ap (λ (t : Told). t.items) c.put.ensures ∙ ap (λ (log : List LogItem). log ++ item ∷ []) c.in_ok-begin_in_room.ensures.items in
     let alive : (state_of (past_of old)).halted who.process ≡ false = subst (λ (h : Held). (state_of h.past).halted who.process ≡ false) (sym c.self.view_is) c.requires in
     record {
-      follows = follows_on (past_of old) (disk_at old.tables) (disk_at old.tables) (is_among old.halted.items) (course_in old.operations.items) (course_in new.operations.items) (item ∷ []) c.put.new.self.items
+      follows = follows_on (past_of old) (disk_at old.tables) (disk_at old.tables) (contains nat_eq old.halted) (course_in old.operations.items) (course_in new.operations.items) (item ∷ []) c.put.new.self.items
           c.self.invariant.follows book ((alive, c.request_known.ensures), tt) refl (λ halted process. refl) c.in_ok-begin_in_room.ensures.courses;
       room = omega (arith, c.self.invariant.room, left, c.in_ok-begin_in_room.ensures.room);
     }

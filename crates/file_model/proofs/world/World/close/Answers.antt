@@ -1,4 +1,5 @@
-use Rattle.std.proofs.Common.{◌≡◌, ◌++◌, ◌∷◌, [], ◌+◌, ◌-◌, ◌≤◌, false, ap, sym, refl, subst, arith}
+use Rattle.std.proofs.Common.{◌≡◌, ◌++◌, ◌∷◌, [], ◌+◌, ◌-◌, ◌≤◌, false, ap, sym, refl, subst, arith, nat_eq}
+use Rattle.std.specs.HashSet.{contains}
 use Rattle.std.specs.Prelude.{IsSome}
 use Rattle.cache_types.specs.Seats.{same_seat}
 use Rattle.file_log.specs.declared.call.Call.TheVariants.{Close}
@@ -9,7 +10,6 @@ use Rattle.file_log.specs.Legal.{IsOpen}
 use Rattle.file_log.specs.Seat.{IsFilled}
 use Rattle.file_log.specs.State.{state_of, disk_of}
 use Rattle.file_model.specs.Calls.{filled_of}
-use Rattle.file_model.specs.Halted.{is_among}
 use Rattle.file_model.specs.Held.{Held}
 use Rattle.file_model.specs.Operations.{course_in}
 use Rattle.world_tables.specs.Room.{closes}
@@ -33,7 +33,7 @@ invariant_of-self c =
     let book : c.put.new.self.items ≡ old.book.items ++ item ∷ [] = ap (λ (t : Told). t.items) c.put.ensures in
     let is_open : IsOpen (disk_of (past_of old)) who slot = record { small = can.0; filled = can.1 } in
     record {
-      follows = follows_on (past_of old) (disk_at old.tables) (disk_at c.close.new.self) (is_among old.halted.items) (course_in old.operations.items) (course_in old.operations.items) (item ∷ []) c.put.new.self.items
+      follows = follows_on (past_of old) (disk_at old.tables) (disk_at c.close.new.self) (contains nat_eq old.halted) (course_in old.operations.items) (course_in old.operations.items) (item ∷ []) c.put.new.self.items
           c.self.invariant.follows book ((alive, (is_open, tt)), tt) c.close.ensures.disk (λ halted process. refl) (λ w. sym (either (same_seat w who) (course_in old.operations.items w)));
       room = omega (arith, c.self.invariant.room, left, fewer);
     }

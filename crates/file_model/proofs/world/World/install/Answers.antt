@@ -1,10 +1,10 @@
-use Rattle.std.proofs.Common.{◌≡◌, ◌∙◌, ◌++◌, ◌∷◌, [], ◌+◌, ◌-◌, List, None, ap, sym, refl, subst, arith}
+use Rattle.std.proofs.Common.{◌≡◌, ◌∙◌, ◌++◌, ◌∷◌, [], ◌+◌, ◌-◌, List, None, ap, sym, refl, subst, arith, nat_eq}
+use Rattle.std.specs.HashSet.{contains}
 use Rattle.cache_types.specs.declared.name.Name.TheVariants.{Ro, RoIdx}
 use Rattle.file_log.specs.declared.item.LogItem.{LogItem}
 use Rattle.file_log.specs.declared.item.LogItem.TheVariants.{Install}
 use Rattle.file_log.specs.Legal.{IsLegal}
 use Rattle.file_log.specs.State.{state_of, disk_of}
-use Rattle.file_model.specs.Halted.{is_among}
 use Rattle.file_model.specs.Held.{Held}
 use Rattle.file_model.specs.Operations.{course_in}
 use Rattle.world_tables.specs.Tables.{disk_at}
@@ -29,7 +29,7 @@ invariant_of-self-2 c =
     let no_index = subst (λ (h : Held). (disk_of h.past).names (RoIdx root name) ≡ None) (sym c.self.view_is) c.requires.index in
     let legal : IsLegal (state_of (past_of old)) item = (tt, record { main_absent = no_main; index_absent = no_index; main_fits = c.known.ensures; index_fits = c.known-2.ensures }) in
     record {
-      follows = follows_on (past_of old) (disk_at old.tables) (disk_at new.tables) (is_among old.halted.items) (course_in old.operations.items) (course_in old.operations.items) (item ∷ []) c.put.new.self.items
+      follows = follows_on (past_of old) (disk_at old.tables) (disk_at new.tables) (contains nat_eq old.halted) (course_in old.operations.items) (course_in old.operations.items) (item ∷ []) c.put.new.self.items
           c.self.invariant.follows book (legal, tt) done.ok (λ halted process. refl) (λ w. refl);
       room = rw done.slots (omega (arith, c.self.invariant.room, left, taken));
     }

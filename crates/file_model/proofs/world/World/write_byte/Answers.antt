@@ -1,11 +1,11 @@
-use Rattle.std.proofs.Common.{◌≡◌, ◌∷◌, [], ◌<◌, false, ap, sym, refl, subst, arith}
+use Rattle.std.proofs.Common.{◌≡◌, ◌∷◌, [], ◌<◌, false, ap, sym, refl, subst, arith, nat_eq}
+use Rattle.std.specs.HashSet.{contains}
 use Rattle.cache_types.specs.Seats.{same_seat}
 use Rattle.file_log.specs.declared.item.LogItem.TheVariants.{Byte}
 use Rattle.file_log.specs.Legal.{IsLegal, IsOpen}
 use Rattle.file_log.specs.Seat.{IsFilled}
 use Rattle.file_log.specs.State.{state_of, disk_of}
 use Rattle.file_model.specs.Calls.{filled_of}
-use Rattle.file_model.specs.Halted.{is_among}
 use Rattle.file_model.specs.Held.{Held}
 use Rattle.file_model.specs.Operations.{course_in}
 use Rattle.world_tables.specs.Tables.{disk_at}
@@ -27,7 +27,7 @@ invariant_of-self-2 c =
     let byte : c.args.value < 256 = omega arith in
     let legal : IsLegal (state_of (past_of old)) item = (alive, record { is_open = is_open; byte = byte }) in
     record {
-      follows = follows_on (past_of old) (disk_at old.tables) (disk_at c.write_byte.new.self) (is_among old.halted.items) (course_in old.operations.items) (course_in old.operations.items) (item ∷ []) c.write_byte.new.book.items
+      follows = follows_on (past_of old) (disk_at old.tables) (disk_at c.write_byte.new.self) (contains nat_eq old.halted) (course_in old.operations.items) (course_in old.operations.items) (item ∷ []) c.write_byte.new.book.items
           c.self.invariant.follows (ap (λ (t : Told). t.items) told) (legal, tt) c.in_ok-write_byte.ensures.ok (λ halted process. refl) (λ w. sym (either (same_seat w who) (course_in old.operations.items w)));
       room = rw (c.in_ok-write_byte.ensures.slots, told) c.self.invariant.room;
     }
