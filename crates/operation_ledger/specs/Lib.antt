@@ -6,4 +6,3 @@ pub mod Given
 pub mod Listed
 pub mod Operations
 pub mod Saying
-pub mod Places

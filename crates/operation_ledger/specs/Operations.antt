@@ -1,5 +1,6 @@
 -- The operations that seats are in, as a log's summary says.
 use Rattle.std.specs.Prelude.{◌≡◌, ℕ, Bool, true, List, ◌++◌, Option, Some, None, if◌then◌else◌}
+use Rattle.std.specs.HashMap.{get}
 use Rattle.std.specs.List.{list_any}
 use Rattle.cache_types.specs.Seats.{same_seat}
 use Rattle.cache_types.specs.declared.name.Name.{Name}
@@ -20,7 +21,6 @@ use Rattle.operation_ledger.specs.declared.names_had.NamesHad.{NamesHad}
 use Rattle.operation_ledger.specs.declared.operation.OpenOperation.{OpenOperation}
 use Rattle.operation_ledger.specs.declared.operations.Operations.{Operations}
 use Rattle.rule_checks.specs.Tests.{same_blob, keep_bytes}
-use Rattle.world_tables.specs.Find.{find_by}
 use Rattle.world_tables.specs.Tables.{disk_at}
 use Rattle.world_tables.specs.declared.tables.Tables.{Tables}
 
@@ -53,7 +53,6 @@ pub record Looks (d : Disk) (old new : OpenOperation) : Type 0 where
 
 -- all else of it is as it was
 pub record KeepsRest (old new : OpenOperation) : Type 0 where
-  pub who : new.who ≡ old.who
   pub request : new.request ≡ old.request
   pub failed : new.failed ≡ old.failed
   pub tries : new.tries ≡ old.tries
@@ -61,7 +60,6 @@ pub record KeepsRest (old new : OpenOperation) : Type 0 where
 
 -- what was asked of it and what was given to it are as they were
 pub record KeepsGiven (old new : OpenOperation) : Type 0 where
-  pub who : new.who ≡ old.who
   pub request : new.request ≡ old.request
   pub gave : new.gave ≡ old.gave
   pub entry : new.entry ≡ old.entry
@@ -74,8 +72,8 @@ pub record KeepsAllBut (old new : OpenOperation) : Type 0 where
 -- ---- all seats
 
 -- the operation that a seat is in, if it is in one
-abbrev pub operation_of : List OpenOperation → Who → Option OpenOperation
-operation_of held who = find_by (λ x. same_seat who x.who) (λ x. x) held
+abbrev pub operation_of : Operations → Who → Option OpenOperation
+operation_of operations who = get same_seat operations.held who
 
 -- both have an operation of a seat, or none
 abbrev pub IsOperation : List (Name × ℕ) → Disk → Option OpenOperation → Option Operation → Type 0
@@ -85,11 +83,11 @@ IsOperation had d x o = ⊥
 
 -- so it is of each seat; and the summary lists the files that names have
 pub record AreOperations (operations : Operations) (s : Summary) : Type 0 where
-  pub inside : (who : Who) → IsOperation s.had s.state.disk (operation_of operations.held.items who) (s.inside who)
+  pub inside : (who : Who) → IsOperation s.had s.state.disk (operation_of operations who) (s.inside who)
   pub listed : AreListed s.had s.state.disk
 
 -- the seat's operation goes on over the item, and the others' are as they were
-abbrev pub GoesOn : Who → List OpenOperation → List OpenOperation → Summary → LogItem → Type 0
+abbrev pub GoesOn : Who → Operations → Operations → Summary → LogItem → Type 0
 GoesOn who old new s item = (w : Who) → IsOperation (s.had ++ gained s.state.disk item) (applied s.state.disk item) (operation_of new w) (if same_seat w who then goes_on_if s.had s.state.disk item (s.inside w) else s.inside w)
 
 -- the names and the tables are as they are after the item, at which files that entries have or had keep their bytes

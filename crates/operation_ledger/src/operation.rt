@@ -23,8 +23,6 @@ use world_tables::{Tables, file_in};
 /// An operation that a seat is in.
 #[derive(Debug, Drop)]
 pub struct OpenOperation {
-    /// Whose it is.
-    pub who: Who,
     /// What it was asked for.
     pub request: Request,
     /// What its store gave after its items, each blob once.
@@ -71,18 +69,15 @@ impl OpenOperation {
     pub fn begin(
         alloc: Global,
         tables: &Tables,
-        who: Who,
         request: &Request,
     ) -> Result<OpenOperation, NoMemory>
-        ensures who { IfOk result (λ x. x.who ≡ who) }
-        ensures holds { IfOk result (λ x. (had : List (Name × ℕ)) → AreListed had (disk_at tables.now) → Holds had (disk_at tables.now) x (begun (disk_at tables.now) request.now)) }
+        ensures { IfOk result (λ x. (had : List (Name × ℕ)) → AreListed had (disk_at tables.now) → Holds had (disk_at tables.now) x (begun (disk_at tables.now) request.now)) }
     {
         let entry = entry_of(tables, request);
         let given = read_entry(alloc, tables, request, entry)?;
         let mut gave = Vec::new(alloc);
         gave.push(given)?;
         Ok(OpenOperation {
-            who,
             request: request.copy(alloc)?,
             gave,
             entry,
@@ -182,7 +177,6 @@ impl OpenOperation {
         ensures ok { OnOk result ((s : Summary) (o : Operation) → Holds s.had s.state.disk self.old o
             → AreListed s.had s.state.disk → IsAfter names.now tables.now s item.now → Holds (summed s item.now).had (applied s.state.disk item.now) self.new (goes_on s.had s.state.disk item.now o)) }
         ensures err { OnErr result ((had : List (Name × ℕ)) (d : Disk) (o : Operation) → Holds had d self.old o → Holds had d self.new o) }
-        ensures who { self.new.who ≡ self.old.who }
     {
         self.tries.reserve(1)?;
         self.look(alloc, tables)?;
