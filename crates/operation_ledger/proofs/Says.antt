@@ -56,11 +56,6 @@ ends_held rough had d x o lately answer told e now is h =
 
 -- ---- the operation of a seat
 
-pub outside_is : (had : List (Name × ℕ)) (d : Disk) (x : Option OpenOperation) (o : Option Operation) → x ≡ None → IsOperation had d x o → o ≡ None
-outside_is had d None None e h = refl
-outside_is had d None (Some o) e h = absurd h
-outside_is had d (Some x) o e h = absurd cc
-
 pub inside_is : (had : List (Name × ℕ)) (d : Disk) (x : Option OpenOperation) (y : OpenOperation) (o : Option Operation) → x ≡ Some y → IsOperation had d x o → (q : Operation) × (o ≡ Some q) × Holds had d y q
 inside_is had d None y o e h = absurd cc
 inside_is had d (Some x) y None e h = absurd h

@@ -60,10 +60,6 @@ pub on_ok : {E T P Q : Type 0} (r : Result T E) → OnOk r P → (P → Q) → O
 on_ok (Ok x) p f = f p
 on_ok (Err e) p f = tt
 
-pub on_err : {E T Q : Type 0} (r : Result T E) → Q → OnErr r Q
-on_err (Ok x) q = tt
-on_err (Err e) q = q
-
 pub err_then : {E T P Q : Type 0} (r : Result T E) → OnErr r P → (P → Q) → OnErr r Q
 err_then (Ok x) p f = tt
 err_then (Err e) p f = f p
@@ -88,10 +84,6 @@ all_then old new s item who x seat kept a becomes mine = record { inside = each;
     each w = rw (ap (λ (o : Option Who). is_seat w o) seat)
         (each_seat who old new x (IsOperation s.had s.state.disk) (IsOperation (s.had ++ gained s.state.disk item) (applied s.state.disk item)) s.inside (operation_after s.had s.state.disk item) becomes a.inside mine (λ o q. stays_one s.had s.state.disk item o q kept) w)
 
--- the same ones
-pub same_held : (old new : Operations) (s : Summary) → new.held.entries ≡ old.held.entries → AreOperations old s → AreOperations new s
-same_held old new s same a = record { inside = λ w. rw same (a.inside w); listed = a.listed }
-
 -- an item of no seat
 pub all_stay : (old : Operations) (s : Summary) (item : LogItem) → seat_of item ≡ None → keep_bytes is_entry s.had s.state.disk (applied s.state.disk item) ≡ true → AreOperations old s → AreOperations old (summed s item)
 all_stay old s item seat kept a = record { inside = each; listed = listed_then s.had s.state.disk item a.listed }
@@ -102,10 +94,6 @@ all_stay old s item seat kept a = record { inside = each; listed = listed_then s
 
 kept_itself : (had : List (Name × ℕ)) (d : Disk) → keep_bytes is_entry had d d ≡ true
 kept_itself had d = (keep_decides is_entry had d d).1 (λ name f i kind. refl)
-
--- an End
-pub all_ended : (old new : Operations) (s : Summary) (who : Who) (answer : Answer) → AreOperations old s → Becomes who old new None → AreOperations new (summed s (items.End who answer))
-all_ended old new s who answer a becomes = all_then old new s (items.End who answer) who None refl (kept_itself s.had s.state.disk) a becomes (λ was. tt)
 
 -- a Begin
 pub all_begun : (old new : Operations) (s : Summary) (d : Disk) (who : Who) (request : Request) (x : OpenOperation) → AreOperations old s → d ≡ s.state.disk
@@ -178,4 +166,4 @@ held_still who old new s x y a found becomes holds = record { inside = each; lis
     each : (w : Who) → IsOperation s.had s.state.disk (operation_of new w) (s.inside w)
     each w = subst (λ (o : Option Operation). IsOperation s.had s.state.disk (operation_of new w) o) (same (same_seat w who) (s.inside w))
         (each_seat who old new (Some y) (IsOperation s.had s.state.disk) (IsOperation s.had s.state.disk) s.inside (λ o. o) becomes a.inside
-            (λ was. still (s.inside who) (subst (λ (o : Option OpenOperation). IsOperation s.had s.state.disk o (s.inside who)) found was)) (λ o q h. h) w)
+        (λ was. still (s.inside who) (subst (λ (o : Option OpenOperation). IsOperation s.had s.state.disk o (s.inside who)) found was)) (λ o q h. h) w)

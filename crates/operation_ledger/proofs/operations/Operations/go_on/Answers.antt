@@ -13,12 +13,12 @@ returns-in-Some-clause-ok c =
     let found : operation_of c.args.self.now c.args.who ≡ Some c.in-Some.operation.now = sym c.in-Some.ensures.value in
     let some : IsSome (operation_of c.args.self.now c.args.who) = rw found refl in
     on_ok c.follow.result c.follow.ensures.ok (λ h s a seat after.
-        goes_one c.args.who c.args.self.now (record { alloc = c.args.self.now.alloc; held = c.get_mut.follows.lender c.follow.new.self }) s c.args.item.now c.in-Some.operation.now c.follow.new.self a after.kept found ((c.get_mut.follows.holds c.follow.new.self).3 some).0
-        (λ o held. h s o held a.listed after))
+    goes_one c.args.who c.args.self.now (record { alloc = c.args.self.now.alloc; held = c.get_mut.follows.lender c.follow.new.self }) s c.args.item.now c.in-Some.operation.now c.follow.new.self a after.kept found ((c.get_mut.follows.holds c.follow.new.self).3 some).0
+    (λ o held. h s o held a.listed after))
 
 pub returns-in-Some-clause-err : goal.returns-in-Some-clause-err
 returns-in-Some-clause-err c =
     let found : operation_of c.args.self.now c.args.who ≡ Some c.in-Some.operation.now = sym c.in-Some.ensures.value in
     let some : IsSome (operation_of c.args.self.now c.args.who) = rw found refl in
     err_then c.follow.result c.follow.ensures.err (λ h s a.
-        held_still c.args.who c.args.self.now (record { alloc = c.args.self.now.alloc; held = c.get_mut.follows.lender c.follow.new.self }) s c.in-Some.operation.now c.follow.new.self a found ((c.get_mut.follows.holds c.follow.new.self).3 some).0 h)
+    held_still c.args.who c.args.self.now (record { alloc = c.args.self.now.alloc; held = c.get_mut.follows.lender c.follow.new.self }) s c.in-Some.operation.now c.follow.new.self a found ((c.get_mut.follows.holds c.follow.new.self).3 some).0 h)
