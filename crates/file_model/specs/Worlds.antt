@@ -18,5 +18,5 @@ view_of w = record { past = past_of w; clock = w.clock }
 
 -- the tables are what the log leaves, and memory is there for each Close, End and failure to come
 pub record AreKept (w : Inside) : Type 0 where
-  pub follows : Follows (past_of w) (disk_at w.tables) (contains nat_eq w.halted) (course_in w.operations.items)
-  pub room : closes w.tables.slots.items + ends w.operations.items ≤ w.book.room
+  pub follows : Follows (past_of w) (disk_at w.tables) (contains nat_eq w.halted) (course_in w.operations)
+  pub room : closes w.tables.slots.items + ends w.operations ≤ w.book.room

@@ -15,12 +15,12 @@ ghost use Rattle.world_tables.specs.Tables.{disk_at};
 ghost use Rattle.file_model.specs.Seeing.{seen_by};
 ghost use Rattle.file_model.specs.Starts.{NamesDiffer};
 
-use crate::operations::{OpenOperation, begin_in_room, end_in_room, fail_in_room, operation_of};
+use crate::operations::{Operations, begin_in_room, end_in_room, fail_in_room, operation_of};
 use crate::seen::Seen;
 use cache_types::{Answer, Bytes, Driver, Key, Name, NoMemory, Request, Store, Text, Who};
 use file_log::{Call, LogItem, Note, Reply, request_known};
 use std::alloc::Global;
-use std::collections::HashSet;
+use std::collections::{HashMap, HashSet};
 use std::marker::Model;
 use world_tables::{Book, Piece, Run, Tables, answer_in_room, install_in_room, list_in_room};
 
@@ -34,7 +34,7 @@ pub struct World {
     book: Book,
     tables: Tables,
     halted: HashSet<u32>,
-    operations: Vec<OpenOperation>,
+    operations: Operations,
     clock: u64,
 }
 
@@ -70,7 +70,7 @@ impl World {
             book: Book::new(alloc),
             tables: Tables::new(alloc),
             halted: HashSet::new(alloc),
-            operations: Vec::new(alloc),
+            operations: HashMap::new(alloc),
             clock: 0,
         }
     }
@@ -98,7 +98,7 @@ impl World {
             book: Book::new(alloc),
             tables,
             halted: HashSet::new(alloc),
-            operations: Vec::new(alloc),
+            operations: HashMap::new(alloc),
             clock,
         })
     }

@@ -1,29 +1,27 @@
-use Rattle.std.proofs.Common.{◌≡◌, ap, Some, arith, rules}
-use Rattle.file_model.specs.Operations.{operation_of}
-use Rattle.file_model.specs.Room.{ends_of}
+use Rattle.std.proofs.Common.{◌≡◌, ◌∙◌, ◌-◌, false, true, sym, ap, arith, rules}
 use Rattle.world_tables.specs.Told.{Told}
+use Rattle.file_model.specs.Room.{ends_of}
+use Rattle.file_model.proofs.OpenOperations.{ends-ended}
 use Rattle.file_model.proofs.operations.end_in_room.Goals as goal
-
-pub returns-then-operation-clause-room : goal.returns-then-operation-clause-room
-returns-then-operation-clause-room c =
-    let x = c.in-Some.operation in
-    let is : operation_of c.args.operations.now.items c.args.who ≡ Some x = search rules in
-    let less = c.end-2.ensures.ends x is in
-    let one : ends_of x.hurt ≡ 1 = ap ends_of c.if-operation.true in
-    omega arith
 
 pub give_room-requires : goal.give_room-requires
 give_room-requires c =
-    let x = c.in-Some.operation in
-    let is : operation_of c.args.operations.now.items c.args.who ≡ Some x = search rules in
-    let less = c.end-2.ensures.ends x is in
-    let two : ends_of x.hurt ≡ 2 = ap ends_of c.if-operation.false in
-    omega arith
+    let less = ends-ended c.args.operations.now c.remove.new.self c.args.who c.in-Some.operation (sym c.remove.ensures.value ∙ c.in-Some.is) c.remove.ensures.entries in
+    let whole : c.in-Some.operation.hurt ≡ false = search rules in
+    let two : ends_of c.in-Some.operation.hurt ≡ 2 = ap ends_of whole in
+    omega (arith, c.requires, less, two)
 
-pub returns-clause-room : goal.returns-clause-room
-returns-clause-room c =
-    let x = c.in-Some.operation in
-    let is : operation_of c.args.operations.now.items c.args.who ≡ Some x = search rules in
-    let less = c.end-2.ensures.ends x is in
-    let two : ends_of x.hurt ≡ 2 = ap ends_of c.if-operation.false in
-    omega (arith, ap (λ (t : Told). t.room) c.give_room.ensures)
+pub returns-then-not-operation-clause-room : goal.returns-then-not-operation-clause-room
+returns-then-not-operation-clause-room c =
+    let less = ends-ended c.args.operations.now c.remove.new.self c.args.who c.in-Some.operation (sym c.remove.ensures.value ∙ c.in-Some.is) c.remove.ensures.entries in
+    let whole : c.in-Some.operation.hurt ≡ false = search rules in
+    let two : ends_of c.in-Some.operation.hurt ≡ 2 = ap ends_of whole in
+    let given : c.give_room.new.self.room ≡ c.args.book.now.room - 1 = ap (λ (t : Told). t.room) c.give_room.ensures in
+    omega (arith, c.requires, less, two, given)
+
+pub returns-else-not-operation-clause-room : goal.returns-else-not-operation-clause-room
+returns-else-not-operation-clause-room c =
+    let less = ends-ended c.args.operations.now c.remove.new.self c.args.who c.in-Some.operation (sym c.remove.ensures.value ∙ c.in-Some.is) c.remove.ensures.entries in
+    let hurt : c.in-Some.operation.hurt ≡ true = search rules in
+    let one : ends_of c.in-Some.operation.hurt ≡ 1 = ap ends_of hurt in
+    omega (arith, less, one)

@@ -1,21 +1,12 @@
-use Rattle.std.proofs.Common.{◌≡◌, ◌≤◌, ap, Some, false, true, Bool, arith, rules}
+use Rattle.std.proofs.Common.{true}
+use Rattle.file_model.specs.declared.operations.OpenOperation.{OpenOperation}
 use Rattle.file_model.specs.Operations.{operation_of}
-use Rattle.file_model.specs.Room.{ends_of}
+use Rattle.file_model.proofs.OpenOperations.{whole_is, ends-hurt}
 use Rattle.file_model.proofs.operations.hurt.Goals as goal
 
-some_end : (hurt : Bool) → 1 ≤ ends_of hurt
-some_end true = omega arith
-some_end false = omega arith
-
 pub returns-in-Some-clause-ends : goal.returns-in-Some-clause-ends
-returns-in-Some-clause-ends c = λ x is whole.
-    let less = c.end.ensures.ends x is in
-    let two : ends_of x.hurt ≡ 2 = ap ends_of whole in
-    rw c.add.ensures (omega arith)
-
-pub returns-in-Some-clause-no_more : goal.returns-in-Some-clause-no_more
-returns-in-Some-clause-no_more c =
-    let x = c.in-Some._operation in
-    let is : operation_of c.args.operations.now.items c.args.who ≡ Some x = search rules in
-    let less = c.end.ensures.ends x is in
-    rw c.add.ensures (omega (arith, some_end x.hurt))
+returns-in-Some-clause-ends c =
+    let old = c.args.operations.now in
+    let who = c.args.who in
+    let hurt : OpenOperation = record { hurt = true } in
+    ends-hurt old (c.get_mut.follows.lender hurt) who (whole_is (operation_of old who) c.requires) (c.get_mut.follows.holds hurt).0

@@ -22,7 +22,7 @@ invariant_of-self-2 c =
     let book : c.put.new.self.items ≡ old.book.items ++ item ∷ [] = ap (λ (t : Told). t.items) c.put.ensures ∙ ap (λ (log : List LogItem). log ++ item ∷ []) items in
     let legal : IsLegal (state_of (past_of old)) item = subst (λ (h : Held). IsLegal (state_of h.past) item) (sym c.self.view_is) c.requires.legal in
     record {
-      follows = follows_on (past_of old) (disk_at old.tables) (disk_at old.tables) (contains nat_eq old.halted) (course_in old.operations.items) (course_in old.operations.items) (item ∷ []) c.put.new.self.items
-          c.self.invariant.follows book (legal, tt) (plain_disk (disk_at old.tables) item plain) (plain_stops item plain) (λ w. plain_course w (course_in old.operations.items w) item plain);
+      follows = follows_on (past_of old) (disk_at old.tables) (disk_at old.tables) (contains nat_eq old.halted) (course_in old.operations) (course_in old.operations) (item ∷ []) c.put.new.self.items
+          c.self.invariant.follows book (legal, tt) (plain_disk (disk_at old.tables) item plain) (plain_stops item plain) (λ w. plain_course w (course_in old.operations w) item plain);
       room = omega (arith, c.self.invariant.room, left, taken);
     }

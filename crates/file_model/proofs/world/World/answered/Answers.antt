@@ -21,7 +21,7 @@ invariant_of-self c =
     let items : c.answer_in_room.new.book.items ≡ old.book.items = ap (λ (t : Told). t.items) same.1 in
     let room : c.answer_in_room.new.book.room ≡ old.book.room = ap (λ (t : Told). t.room) same.1 in
     record {
-      follows = follows_still (past_of old) (disk_at old.tables) (disk_at c.answer_in_room.new.tables) (contains nat_eq old.halted) (course_in old.operations.items) (course_in old.operations.items) c.answer_in_room.new.book.items
+      follows = follows_still (past_of old) (disk_at old.tables) (disk_at c.answer_in_room.new.tables) (contains nat_eq old.halted) (course_in old.operations) (course_in old.operations) c.answer_in_room.new.book.items
           c.self.invariant.follows items same.0 (λ w. refl);
       room = omega (arith, c.self.invariant.room, room, c.in_err-answer_in_room.ensures.no_more);
     }
@@ -40,7 +40,7 @@ invariant_of-self-2 c =
     let book : c.put.new.self.items ≡ old.book.items ++ item ∷ [] = ap (λ (t : Told). t.items) c.put.ensures ∙ ap (λ (log : List LogItem). log ++ item ∷ []) items in
     let legal : IsLegal (state_of (past_of old)) item = subst (λ (h : Held). IsLegal (state_of h.past) item) (sym c.self.view_is) c.requires in
     record {
-      follows = follows_on (past_of old) (disk_at old.tables) (disk_at c.answer_in_room.new.tables) (contains nat_eq old.halted) (course_in old.operations.items) (course_in old.operations.items) (item ∷ []) c.put.new.self.items
-          c.self.invariant.follows book (legal, tt) c.in_ok-answer_in_room.ensures.ok (λ halted process. refl) (λ w. sym (either (same_seat w who) (course_in old.operations.items w)));
+      follows = follows_on (past_of old) (disk_at old.tables) (disk_at c.answer_in_room.new.tables) (contains nat_eq old.halted) (course_in old.operations) (course_in old.operations) (item ∷ []) c.put.new.self.items
+          c.self.invariant.follows book (legal, tt) c.in_ok-answer_in_room.ensures.ok (λ halted process. refl) (λ w. sym (either (same_seat w who) (course_in old.operations w)));
       room = omega (arith, c.self.invariant.room, taken, left, c.in_ok-answer_in_room.ensures.closes);
     }

@@ -33,7 +33,7 @@ invariant_of-self c =
     let book : c.put.new.self.items ≡ old.book.items ++ item ∷ [] = ap (λ (t : Told). t.items) c.put.ensures in
     let is_open : IsOpen (disk_of (past_of old)) who slot = record { small = can.0; filled = can.1 } in
     record {
-      follows = follows_on (past_of old) (disk_at old.tables) (disk_at c.close.new.self) (contains nat_eq old.halted) (course_in old.operations.items) (course_in old.operations.items) (item ∷ []) c.put.new.self.items
-          c.self.invariant.follows book ((alive, (is_open, tt)), tt) c.close.ensures.disk (λ halted process. refl) (λ w. sym (either (same_seat w who) (course_in old.operations.items w)));
+      follows = follows_on (past_of old) (disk_at old.tables) (disk_at c.close.new.self) (contains nat_eq old.halted) (course_in old.operations) (course_in old.operations) (item ∷ []) c.put.new.self.items
+          c.self.invariant.follows book ((alive, (is_open, tt)), tt) c.close.ensures.disk (λ halted process. refl) (λ w. sym (either (same_seat w who) (course_in old.operations w)));
       room = omega (arith, c.self.invariant.room, left, fewer);
     }

@@ -29,7 +29,7 @@ invariant_of-self-2 c =
     let no_index = subst (λ (h : Held). (disk_of h.past).names (RoIdx root name) ≡ None) (sym c.self.view_is) c.requires.index in
     let legal : IsLegal (state_of (past_of old)) item = (tt, record { main_absent = no_main; index_absent = no_index; main_fits = c.known.ensures; index_fits = c.known-2.ensures }) in
     record {
-      follows = follows_on (past_of old) (disk_at old.tables) (disk_at new.tables) (contains nat_eq old.halted) (course_in old.operations.items) (course_in old.operations.items) (item ∷ []) c.put.new.self.items
+      follows = follows_on (past_of old) (disk_at old.tables) (disk_at new.tables) (contains nat_eq old.halted) (course_in old.operations) (course_in old.operations) (item ∷ []) c.put.new.self.items
           c.self.invariant.follows book (legal, tt) done.ok (λ halted process. refl) (λ w. refl);
       room = rw done.slots (omega (arith, c.self.invariant.room, left, taken));
     }

@@ -20,7 +20,7 @@ invariant_of-self-2 c =
     let left : c.put.new.self.room ≡ new.book.room - 1 = ap (λ (t : Told). t.room) c.put.ensures in
     let book : c.put.new.self.items ≡ old.book.items ++ item ∷ [] = ap (λ (t : Told). t.items) c.put.ensures ∙ ap (λ (log : List LogItem). log ++ item ∷ []) items in
     record {
-      follows = follows_on (past_of old) (disk_at old.tables) (disk_at new.tables) (contains nat_eq old.halted) (course_in old.operations.items) (course_in old.operations.items) (item ∷ []) c.put.new.self.items
+      follows = follows_on (past_of old) (disk_at old.tables) (disk_at new.tables) (contains nat_eq old.halted) (course_in old.operations) (course_in old.operations) (item ∷ []) c.put.new.self.items
           c.self.invariant.follows book ((tt, c.text_known.ensures), tt) done.ok (λ halted process. refl) (λ w. refl);
       room = rw done.slots (omega (arith, c.self.invariant.room, left, taken));
     }

@@ -23,7 +23,7 @@ invariant_of-self-2 c =
     let left : c.put.new.self.room ≡ c.make_room.new.self.room - 1 = ap (λ (t : Told). t.room) c.put.ensures in
     let book : c.put.new.self.items ≡ old.book.items ++ item ∷ [] = ap (λ (t : Told). t.items) c.put.ensures ∙ ap (λ (log : List LogItem). log ++ item ∷ []) items in
     record {
-      follows = follows_to (past_of old) (disk_at old.tables) (disk_at c.stop.new.self) (contains nat_eq old.halted) (contains nat_eq c.insert.new.self) (course_in old.operations.items) (course_in old.operations.items) (item ∷ []) c.put.new.self.items
+      follows = follows_to (past_of old) (disk_at old.tables) (disk_at c.stop.new.self) (contains nat_eq old.halted) (contains nat_eq c.insert.new.self) (course_in old.operations) (course_in old.operations) (item ∷ []) c.put.new.self.items
           c.self.invariant.follows book ((tt, tt), tt) c.stop.ensures.disk (λ p. c.in_ok-_added.ensures.updates.0 p ∙ or_is (nat_eq process p) (contains nat_eq old.halted p)) (λ w. refl);
       room = omega (arith, c.self.invariant.room, left, taken, c.stop.ensures.no_more);
     }

@@ -27,7 +27,7 @@ invariant_of-self-2 c =
     let byte : c.args.value < 256 = omega arith in
     let legal : IsLegal (state_of (past_of old)) item = (alive, record { is_open = is_open; byte = byte }) in
     record {
-      follows = follows_on (past_of old) (disk_at old.tables) (disk_at c.write_byte.new.self) (contains nat_eq old.halted) (course_in old.operations.items) (course_in old.operations.items) (item ∷ []) c.write_byte.new.book.items
-          c.self.invariant.follows (ap (λ (t : Told). t.items) told) (legal, tt) c.in_ok-write_byte.ensures.ok (λ halted process. refl) (λ w. sym (either (same_seat w who) (course_in old.operations.items w)));
+      follows = follows_on (past_of old) (disk_at old.tables) (disk_at c.write_byte.new.self) (contains nat_eq old.halted) (course_in old.operations) (course_in old.operations) (item ∷ []) c.write_byte.new.book.items
+          c.self.invariant.follows (ap (λ (t : Told). t.items) told) (legal, tt) c.in_ok-write_byte.ensures.ok (λ halted process. refl) (λ w. sym (either (same_seat w who) (course_in old.operations w)));
       room = rw (c.in_ok-write_byte.ensures.slots, told) c.self.invariant.room;
     }

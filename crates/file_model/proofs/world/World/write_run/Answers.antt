@@ -26,9 +26,9 @@ invariant_of-self-2 c =
     let alive : (state_of (past_of old)).halted who.process ≡ false = subst (λ (h : Held). (state_of h.past).halted who.process ≡ false) (sym c.self.view_is) c.requires.alive in
     let is_open : IsOpen (disk_of (past_of old)) who slot = record { small = can.0; filled = can.1 } in
     record {
-      follows = follows_on (past_of old) (disk_at old.tables) (disk_at c.write_run.new.self) (contains nat_eq old.halted) (course_in old.operations.items) (course_in old.operations.items) items c.write_run.new.book.items
+      follows = follows_on (past_of old) (disk_at old.tables) (disk_at c.write_run.new.self) (contains nat_eq old.halted) (course_in old.operations) (course_in old.operations) items c.write_run.new.book.items
           c.self.invariant.follows (ap (λ (t : Told). t.items) told) (run_legal (state_of (past_of old)) who slot at values alive is_open c.known.ensures)
-          (c.in_ok-write_run.ensures.ok ∙ sym (run_after (disk_at old.tables) who slot at values)) (run_stops_none who slot at values) (λ w. run_courses who slot at values w (course_in old.operations.items w));
+          (c.in_ok-write_run.ensures.ok ∙ sym (run_after (disk_at old.tables) who slot at values)) (run_stops_none who slot at values) (λ w. run_courses who slot at values w (course_in old.operations w));
       room = rw (c.in_ok-write_run.ensures.slots, told) c.self.invariant.room;
     }
 
