@@ -157,7 +157,3 @@ file_in-stopped process slots w a = dropped_if (nat_eq w.process process) (λ x.
     (λ x e.
     let seat : w ≡ x.who = same_seat-true w x.who (both (same_seat w x.who) (nat_eq x.slot a) e).0 in
     ap (λ (v : Who). nat_eq v.process process) seat ∙ not_not (nat_eq x.who.process process))
-
-pub total_one : {A : Type 0} (xs : List A) → total (λ (x : A). 1) xs ≡ length xs
-total_one [] = refl
-total_one (x ∷ xs) = omega (arith, total_one xs)
