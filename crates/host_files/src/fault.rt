@@ -1,6 +1,6 @@
-ghost use Rattle.std.specs.Prelude.{◌≡◌, ◌↔◌};
-ghost use Rattle.std.specs.declared.io.ErrorKind.TheVariants.{OutOfMemory};
+ghost use Rattle.std.specs.Prelude.{◌≡◌};
 ghost use Rattle.std.specs.IoError.{error_kind};
+ghost use Rattle.host_files.specs.Faults.{IsFaultOf};
 ghost use Rattle.host_files.specs.declared.fault.Fault.TheVariants.{NoMemory};
 
 use cache_types::NoMemory;
@@ -18,7 +18,7 @@ pub enum Fault {
 }
 
 impl From<io::Error> for Fault {
-    ghost from_gives = { λ e f. (f ≡ NoMemory) ↔ (error_kind e ≡ OutOfMemory) };
+    ghost from_gives = { λ e f. IsFaultOf (error_kind e) f };
 
     fn from(error: io::Error) -> Fault {
         match error.kind() {

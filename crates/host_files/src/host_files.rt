@@ -34,7 +34,7 @@ pub struct HostFiles<R: RealFiles<File = File> + Clock + Drop> {
 }
 
 impl<R: RealFiles<File = File> + Clock + Drop> HostFiles<R> {
-    ghost use Rattle.std.specs.Prelude.{◌≡◌, Err, IfOk};
+    ghost use Rattle.std.specs.Prelude.{◌≡◌, ◌+◌, ◌-◌, ◌^◌, min, Ok, Err, IfOk, IfErr};
     ghost use Rattle.file_log.specs.declared.call.Call.TheVariants as calls;
     ghost use Rattle.file_log.specs.declared.reply.Reply.TheVariants as replies;
     ghost use Rattle.file_log.specs.Seat.{IsFilled, IsEmpty, IsIdle, SlotFits};
@@ -62,6 +62,7 @@ impl<R: RealFiles<File = File> + Clock + Drop> HostFiles<R> {
     /// The path of a name. `Failed` exactly where it has none.
     fn path(&self, name: &Name) -> Result<Text, Fault>
         ensures path { IfOk result (λ t. t ≡ path_spelled self.now.paths name.now) }
+        ensures memory { HasPath self.now.paths name.now → IfErr result (λ f. f ≡ faults.NoMemory) }
         ensures outside { (HasPath self.now.paths name.now → ⊥) → result ≡ Err faults.Failed }
     {
         if !has_path(&self.paths, name) {
@@ -94,7 +95,8 @@ impl<R: RealFiles<File = File> + Clock + Drop> HostFiles<R> {
 
     fn try_lock(&mut self, slot: u8) -> Result<Reply, Fault>
         requires { IsFilled (filled_in self.old.seat.slots) slot }
-        ensures { Went self.old.seat (calls.TryLock slot) result self.new.seat }
+        ensures went { Went self.old.seat (calls.TryLock slot) result self.new.seat }
+        ensures waits { result ≡ Ok replies.Done → self.new.waits ≡ 0 }
     {
         if !system::take_lock(self.seat.file(slot))? {
             return Ok(Reply::Held);
@@ -173,7 +175,8 @@ impl<R: RealFiles<File = File> + Clock + Drop> HostFiles<R> {
     }
 
     fn pause(&mut self) -> Reply
-        ensures { Acts self.old.seat calls.Pause result self.new.seat }
+        ensures acts { Acts self.old.seat calls.Pause result self.new.seat }
+        ensures waits { self.new.waits ≡ min (self.old.waits + 1) (2 ^ 32 - 1) }
     {
         system::wait(&self.rt, self.waits);
         self.waits = self.waits.saturating_add(1);
@@ -181,7 +184,8 @@ impl<R: RealFiles<File = File> + Clock + Drop> HostFiles<R> {
     }
 
     fn tell(&mut self, note: &Note) -> Reply
-        ensures { Acts self.old.seat (calls.Tell note.now) result self.new.seat }
+        ensures acts { Acts self.old.seat (calls.Tell note.now) result self.new.seat }
+        ensures waits { self.new.waits ≡ 0 }
     {
         self.waits = 0;
         self.seat.tell(note)
@@ -231,6 +235,7 @@ impl<R: RealFiles<File = File> + Clock + Drop> Files for HostFiles<R> {
     ghost use Rattle.file_log.specs.Seat.{MayCall, IsSeen, seen_after};
     ghost use Rattle.file_log.specs.Told.{Called, HasCause};
     ghost use Rattle.host_files.specs.Calls.{HasPaths};
+    ghost use Rattle.host_files.specs.Faults.{count_after};
     ghost use Rattle.host_files.specs.Seats.{seen_of};
 
     ghost history = { λ _. None };
@@ -244,7 +249,7 @@ impl<R: RealFiles<File = File> + Clock + Drop> Files for HostFiles<R> {
     /// Makes a call.
     ///
     /// A name that has no path, or a root that isn't there, makes no call of the system and is answered
-    /// `Failed`.
+    /// `Failed`. Each `Failed` is counted once.
     fn call(&mut self, c: Call) -> Reply
         requires may { MayCall (seen_of self.old.seat) c }
         ensures fits { Answers self.old.seat.inside c result }
@@ -253,6 +258,7 @@ impl<R: RealFiles<File = File> + Clock + Drop> Files for HostFiles<R> {
         ensures told { Called self.old.seat.me self.old.seat.inside c result None None }
         ensures cause { HasCause self.old.seat.faults self.new.seat.faults result }
 
+        ensures count { self.new.seat.faults ≡ count_after result self.old.seat.faults }
         ensures outside { (HasPaths self.old.paths c → ⊥) → result ≡ Failed }
     {
         self.made(&c)

@@ -1,5 +1,6 @@
 ghost use Rattle.std.specs.Prelude.{◌≡◌, ◌≤◌, length, IfOk};
 ghost use Rattle.files_api.specs.Streams.{HasFault};
+ghost use Rattle.host_files.specs.Faults.{risen};
 ghost use Rattle.files_api.specs.declared.took.Took.TheVariants.{Failed};
 
 use crate::fault::Fault;
@@ -43,6 +44,7 @@ impl<R: Print + Drop> HostSink<R> {
     fn fail(&mut self) -> Took
         ensures failed { result ≡ Failed }
         ensures cause { HasFault self.old.faults self.new.faults result }
+        ensures faults { self.new.faults ≡ risen self.old.faults }
     {
         self.faults = self.faults.saturating_add(1);
         Took::Failed
@@ -50,13 +52,21 @@ impl<R: Print + Drop> HostSink<R> {
 }
 
 impl<R: Print + Drop> Sink for HostSink<R> {
-    ghost use Rattle.std.specs.Prelude.{None};
+    ghost use Rattle.std.specs.Prelude.{◌≡◌, None};
+    ghost use Rattle.files_api.specs.Streams.{HasFault, IsWritten};
+    ghost use Rattle.host_files.specs.Faults.{count_taken};
 
     ghost written = { λ _. None };
 
     ghost faults = { λ s. s.faults };
 
-    fn write(&mut self, bytes: &[u8]) -> Took {
+    /// Writes the next bytes. A failure is counted once.
+    fn write(&mut self, bytes: &[u8]) -> Took
+        ensures written { IsWritten result None None bytes.now }
+        ensures cause { HasFault self.old.faults self.new.faults result }
+
+        ensures count { self.new.faults ≡ count_taken result self.old.faults }
+    {
         if bytes.is_empty() {
             return Took::Some(0);
         }

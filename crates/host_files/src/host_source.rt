@@ -1,5 +1,7 @@
 ghost use Rattle.std.specs.Prelude.{◌≡◌, ◌≤◌, length, drop, IfOk, OnErr};
+ghost use Rattle.std.specs.Io.KnownBytes.{ReadConsumes};
 ghost use Rattle.files_api.specs.Streams.{HasFault};
+ghost use Rattle.host_files.specs.Faults.{risen};
 ghost use Rattle.files_api.specs.declared.took.Took.TheVariants.{Failed};
 
 use crate::fault::Fault;
@@ -11,32 +13,10 @@ use std::io::{Input, Read};
 /// At most so many bytes are read at once: as many as a pipe of Linux holds.
 const PIECE: usize = 65_536;
 
-/// A reader, and room for what one reading of it gives: a reader may change all of the slice that it is
-/// given, and a [`Source`] changes no more of a slice than it reads.
-#[derive(Drop)]
-struct Pieces<T: Read + Drop> {
-    reader: T,
-    piece: Vec<u8>,
-}
-
-impl<T: Read + Drop> Pieces<T> {
-    /// Copies the next bytes, as many as come at once.
-    fn copy_to(&mut self, into: &mut [u8]) -> Result<usize, Fault>
-        ensures within { IfOk result (λ n. n ≤ length into.old) }
-        ensures rest { IfOk result (λ n. drop n into.new ≡ drop n into.old) }
-        ensures failed { OnErr result (into.new ≡ into.old) }
-    {
-        let room = into.len().min(self.piece.len());
-        let piece = &mut self.piece.as_mut_slice()[..room];
-        let n = read_some(&mut self.reader, piece)?;
-        into[..n].copy_from_slice(&piece[..n]);
-        Ok(n)
-    }
-}
-
 /// Reads what comes at once.
 fn read_some<T: Read>(reader: &mut T, into: &mut [u8]) -> Result<usize, Fault>
-    ensures { IfOk result (λ n. n ≤ length into.new) }
+    ensures within { IfOk result (λ n. n ≤ length into.new) }
+    ensures bytes { ReadConsumes (T.remaining reader.old) (T.remaining reader.new) result into.new }
 {
     for _ in 0..u64::MAX {
         match reader.read(into) {
@@ -47,15 +27,17 @@ fn read_some<T: Read>(reader: &mut T, into: &mut [u8]) -> Result<usize, Fault>
     Err(Fault::Failed)
 }
 
-/// Standard input. What is left isn't told.
+/// Standard input. What is left isn't told, but where a reader tells it, no byte of it is passed over.
 ///
 /// A reading is one call of the system, of at most 65,536 bytes; it is made again where a signal interrupted
 /// it. That it fails, or that there is no memory for those bytes, is a fault.
 #[derive(Drop)]
 pub struct HostSource<R: Input + Drop> {
     alloc: Global,
-    rt: R,
-    pieces: Option<Pieces<R::Reader>>,
+    reader: R::Reader,
+    /// Room for what one reading gives, made at the first: a reader may change all of the slice that it is
+    /// given, and a [`Source`] changes no more of a slice than it reads.
+    piece: Vec<u8>,
     faults: u64,
 }
 
@@ -66,35 +48,34 @@ impl<R: Input + Drop> HostSource<R> {
     {
         HostSource {
             alloc,
-            rt,
-            pieces: None,
+            reader: rt.reader(),
+            piece: Vec::new(alloc),
             faults: 0,
         }
     }
 
-    /// Copies the next bytes. At the first reading room is made for them.
+    /// Copies the next bytes, as many as come at once.
     fn copy_to(&mut self, into: &mut [u8]) -> Result<usize, Fault>
         ensures within { IfOk result (λ n. n ≤ length into.old) }
         ensures rest { IfOk result (λ n. drop n into.new ≡ drop n into.old) }
         ensures failed { OnErr result (into.new ≡ into.old) }
         ensures faults { self.new.faults ≡ self.old.faults }
+        ensures bytes { ReadConsumes (⟦<R::Reader as Read>⟧.remaining self.old.reader) (⟦<R::Reader as Read>⟧.remaining self.new.reader) result into.new }
     {
-        match &mut self.pieces {
-            Some(pieces) => pieces.copy_to(into),
-            None => {
-                let piece = vec![in self.alloc; 0u8; PIECE]?;
-                let reader = self.rt.reader();
-                let mut pieces = Pieces { reader, piece };
-                let copied = pieces.copy_to(into);
-                self.pieces = Some(pieces);
-                copied
-            }
+        if self.piece.is_empty() {
+            self.piece = vec![in self.alloc; 0u8; PIECE]?;
         }
+        let room = into.len().min(self.piece.len());
+        let piece = &mut self.piece.as_mut_slice()[..room];
+        let n = read_some(&mut self.reader, piece)?;
+        into[..n].copy_from_slice(&piece[..n]);
+        Ok(n)
     }
 
     fn fail(&mut self) -> Took
         ensures failed { result ≡ Failed }
         ensures cause { HasFault self.old.faults self.new.faults result }
+        ensures faults { self.new ≡ record self.old { faults = risen self.old.faults } }
     {
         self.faults = self.faults.saturating_add(1);
         Took::Failed
@@ -102,13 +83,23 @@ impl<R: Input + Drop> HostSource<R> {
 }
 
 impl<R: Input + Drop> Source for HostSource<R> {
-    ghost use Rattle.std.specs.Prelude.{None};
+    ghost use Rattle.std.specs.Prelude.{◌≡◌, None};
+    ghost use Rattle.files_api.specs.Streams.{HasFault, IsRead};
+    ghost use Rattle.host_files.specs.Faults.{count_taken};
+    ghost use Rattle.host_files.specs.Streams.{TakesNext};
 
     ghost left = { λ _. None };
 
     ghost faults = { λ s. s.faults };
 
-    fn read(&mut self, into: &mut [u8]) -> Took {
+    /// Reads the next bytes. A failure is counted once.
+    fn read(&mut self, into: &mut [u8]) -> Took
+        ensures read { IsRead result None None into.old into.new }
+        ensures cause { HasFault self.old.faults self.new.faults result }
+
+        ensures count { self.new.faults ≡ count_taken result self.old.faults }
+        ensures next { TakesNext result (⟦<R::Reader as Read>⟧.remaining self.old.reader) (⟦<R::Reader as Read>⟧.remaining self.new.reader) into.new }
+    {
         if into.is_empty() {
             return Took::Some(0);
         }

@@ -17,14 +17,14 @@ pub struct Seat {
 }
 
 impl Seat {
-    ghost use Rattle.std.specs.Prelude.{◌≡◌, ◌<◌, true, false};
+    ghost use Rattle.std.specs.Prelude.{◌≡◌, ◌<◌, true, false, get_or, slice_set, Some, None};
     ghost use Rattle.cache_types.specs.declared.name.Name.{Name};
     ghost use Rattle.file_log.specs.declared.call.Call.{Call};
     ghost use Rattle.file_log.specs.declared.call.Call.TheVariants.{OpenOld, OpenNew, Close, Tell};
     ghost use Rattle.file_log.specs.Exchange.{MayFail, MayLack};
     ghost use Rattle.file_log.specs.Seat.{IsIdle, IsFilled, IsEmpty};
     ghost use Rattle.host_files.specs.Slots.{filled_in};
-    ghost use Rattle.host_files.specs.Seats.{Acts, reply_of, seen_of};
+    ghost use Rattle.host_files.specs.Seats.{Acts, reply_of, seat_after, seen_of};
 
     /// A seat without open files, outside any operation.
     pub fn new(me: Who) -> Seat
@@ -44,6 +44,7 @@ impl Seat {
     /// The file in a slot.
     pub fn file(&self, slot: u8) -> &File
         requires { IsFilled (filled_in self.now.slots) slot }
+        ensures { get_or self.now.slots slot None ≡ Some result.now }
     {
         match &self.slots[slot as usize] {
             Some(file) => file,
@@ -56,6 +57,7 @@ impl Seat {
         requires { IsEmpty (filled_in self.old.slots) slot }
         ensures old { (name : Name) → Acts self.old (OpenOld slot name) result self.new }
         ensures new { (name : Name) → Acts self.old (OpenNew slot name) result self.new }
+        ensures slots { self.new.slots ≡ slice_set self.old.slots slot (Some file) }
     {
         self.slots[slot as usize] = Some(file);
         Reply::Done
@@ -64,7 +66,8 @@ impl Seat {
     /// The slot is empty, and its file closed.
     pub fn close(&mut self, slot: u8) -> Reply
         requires { IsFilled (filled_in self.old.slots) slot }
-        ensures { Acts self.old (Close slot) result self.new }
+        ensures closed { Acts self.old (Close slot) result self.new }
+        ensures slots { self.new.slots ≡ slice_set self.old.slots slot None }
     {
         self.slots[slot as usize] = None;
         Reply::Done
@@ -72,7 +75,8 @@ impl Seat {
 
     /// A note is kept only as far as it opens or ends an operation.
     pub fn tell(&mut self, note: &Note) -> Reply
-        ensures { Acts self.old (Tell note.now) result self.new }
+        ensures told { Acts self.old (Tell note.now) result self.new }
+        ensures slots { self.new.slots ≡ self.old.slots }
     {
         match note {
             Note::Begin(_) => {
@@ -88,9 +92,10 @@ impl Seat {
         Reply::Done
     }
 
-    /// A call wasn't done.
+    /// A call wasn't done: an open operation is hurt, and a refusal of the system is counted, once.
     pub fn fail(&mut self, fault: Fault) -> Reply
         ensures reply { result ≡ reply_of fault }
+        ensures seat { self.new ≡ seat_after fault self.old }
         ensures acts { (call : Call) → MayFail call → MayLack self.old.inside call → Acts self.old call result self.new }
     {
         self.hurt = self.inside;

@@ -1,4 +1,19 @@
-ghost use Rattle.std.specs.Prelude.{◌≤◌, length, IfOk};
+ghost use Rattle.std.specs.Prelude.{◌≡◌, ◌↔◌, ◌⊎◌, ◌≤◌, ◌-◌, ◌^◌, ◌∷◌, [], length, min, true, false, Ok, Err, IsOk, IfOk, IfErr, Some, IfSome, unwrap_or, IsTrue};
+ghost use Rattle.std.specs.Fs.{new_options, with_read, with_write, with_create};
+ghost use Rattle.std.specs.IoError.{error_kind};
+ghost use Rattle.std.specs.List.{All};
+ghost use Rattle.std.specs.List.Sorted.{IsSorted};
+ghost use Rattle.std.specs.Path.{path_parent};
+ghost use Rattle.std.specs.Duration.{as_nanos};
+ghost use Rattle.std.specs.declared.io.Error.{Error as IoError};
+ghost use Rattle.std.specs.declared.io.ErrorKind.TheVariants.{NotFound, PermissionDenied, ReadOnlyFilesystem, Interrupted};
+ghost use Rattle.std.specs.declared.fs.locks.TryLockError.TheVariants.{WouldBlock, Error};
+ghost use Rattle.hex.specs.Hex.{encode_lower};
+ghost use Rattle.cache_types.specs.declared.key.Key.{Key};
+ghost use Rattle.cache_types.specs.declared.limits.TheConstants.{MAX_ITEM};
+ghost use Rattle.host_files.specs.Faults.{IsFaultOf};
+ghost use Rattle.host_files.specs.Names.{IsEntry, StartsWith};
+ghost use Rattle.host_files.specs.Waits.{sleep_after};
 
 use crate::fault::Fault;
 use cache_types::{Bytes, Key, KeyList, MAX_ITEM};
@@ -7,6 +22,7 @@ use std::alloc::Global;
 use std::fs::{File, OpenOptions, TryLockError};
 use std::io::ErrorKind;
 use std::os::unix::fs::FileExt;
+use std::path::Path;
 use std::rt::{Clock, Files as RealFiles};
 use std::time::Duration;
 use std::{fs, io, thread};
@@ -23,12 +39,38 @@ const FIRST_SLEEP: u64 = 50;
 /// No sleep is longer: 2 milliseconds.
 const LONGEST_SLEEP: u64 = 2_000;
 
+/// How a file is opened for reading and writing, and made where it is to be and there is none.
+fn for_writing(create: bool) -> OpenOptions
+    ensures { result ≡ with_create (with_write (with_read new_options true) true) create }
+{
+    let mut options = OpenOptions::new();
+    options.read(true).write(true).create(create);
+    options
+}
+
 fn open<R: RealFiles<File = File>>(rt: &R, path: &str, create: bool) -> io::Result<File> {
-    OpenOptions::new()
-        .read(true)
-        .write(true)
-        .create(create)
-        .open(rt, path)
+    for_writing(create).open(rt, path)
+}
+
+/// What isn't found is no fault; another error is one.
+fn pass_missing(error: io::Error) -> Result<(), Fault>
+    ensures missing { IsOk result ↔ (error_kind error ≡ NotFound) }
+    ensures fault { IfErr result (IsFaultOf (error_kind error)) }
+{
+    match error.kind() {
+        ErrorKind::NotFound => Ok(()),
+        _ => Err(Fault::from(error)),
+    }
+}
+
+/// Whether a file can't be opened for writing, though perhaps for reading.
+fn is_denied(kind: ErrorKind) -> bool
+    ensures { IsTrue result ↔ ((kind ≡ PermissionDenied) ⊎ (kind ≡ ReadOnlyFilesystem)) }
+{
+    match kind {
+        ErrorKind::PermissionDenied | ErrorKind::ReadOnlyFilesystem => true,
+        _ => false,
+    }
 }
 
 /// The file of a path, for reading and writing, or for reading alone where more is denied. Nothing else than
@@ -36,11 +78,11 @@ fn open<R: RealFiles<File = File>>(rt: &R, path: &str, create: bool) -> io::Resu
 pub fn open_old<R: RealFiles<File = File>>(rt: &R, path: &str) -> Result<Option<File>, Fault> {
     match open(rt, path, false) {
         Ok(file) => Ok(Some(file)),
-        Err(error) => match error.kind() {
-            ErrorKind::NotFound => Ok(None),
-            ErrorKind::PermissionDenied | ErrorKind::ReadOnlyFilesystem => open_denied(rt, path),
-            _ => Err(Fault::from(error)),
-        },
+        Err(error) if is_denied(error.kind()) => open_denied(rt, path),
+        Err(error) => {
+            pass_missing(error)?;
+            Ok(None)
+        }
     }
 }
 
@@ -58,27 +100,36 @@ fn open_denied<R: RealFiles<File = File>>(rt: &R, path: &str) -> Result<Option<F
 pub fn open_new<R: RealFiles<File = File>>(rt: &R, path: &str) -> Result<File, Fault> {
     match open(rt, path, true) {
         Ok(file) => Ok(file),
-        Err(error) => match error.kind() {
-            ErrorKind::NotFound => {
-                fs::create_dir_all(rt, folder_of(path))?;
-                Ok(open(rt, path, true)?)
-            }
-            _ => Err(Fault::from(error)),
-        },
+        Err(error) => {
+            pass_missing(error)?;
+            fs::create_dir_all(rt, folder_of(path))?;
+            Ok(open(rt, path, true)?)
+        }
     }
 }
 
-/// What stands before the last slash of a path.
-pub fn folder_of(path: &str) -> &str {
-    match path.rsplit_once('/') {
-        Some((folder, _)) => folder,
+/// The folder that a path's file lies in.
+pub fn folder_of(path: &str) -> &str
+    ensures { result.now ≡ unwrap_or (path_parent path.now) [] }
+{
+    match Path::new(path).parent() {
+        Some(folder) => folder.as_str(),
         None => "",
     }
 }
 
 /// Takes a file's lock, unless another open file has it.
 pub fn take_lock(file: &File) -> Result<bool, Fault> {
-    match file.try_lock() {
+    is_taken(file.try_lock())
+}
+
+/// Whether a try took the lock; it didn't where another open file has it.
+fn is_taken(tried: Result<(), TryLockError>) -> Result<bool, Fault>
+    ensures taken { IsOk tried ↔ (result ≡ Ok true) }
+    ensures held { (tried ≡ Err WouldBlock) ↔ (result ≡ Ok false) }
+    ensures fault { (error : IoError) → tried ≡ Err (Error error) → IfErr result (IsFaultOf (error_kind error)) }
+{
+    match tried {
         Ok(()) => Ok(true),
         Err(TryLockError::WouldBlock) => Ok(false),
         Err(TryLockError::Error(error)) => Err(Fault::from(error)),
@@ -92,7 +143,8 @@ pub fn length(file: &File) -> Result<u64, Fault> {
 
 /// The bytes of a file from a place on, so many or up to its end.
 pub fn read(alloc: Global, file: &File, at: u64, n: u64) -> Result<Bytes, Fault>
-    ensures { IfOk result (λ b. length b ≤ n) }
+    ensures asked { IfOk result (λ b. length b ≤ n) }
+    ensures before_all { IfOk result (λ b. length b ≤ 2 ^ 63 - 1 - at) }
 {
     let room = room_for(file, at, n)?;
     let mut bytes = vec![in alloc; 0u8; room as usize]?;
@@ -104,7 +156,8 @@ pub fn read(alloc: Global, file: &File, at: u64, n: u64) -> Result<Bytes, Fault>
 /// How many bytes a reading makes room for: as many as are asked for, but where that is more than any item
 /// has, no more than the file has there.
 fn room_for(file: &File, at: u64, n: u64) -> Result<u64, Fault>
-    ensures { IfOk result (λ room. room ≤ n) }
+    ensures asked { IfOk result (λ room. room ≤ min n (2 ^ 63 - 1 - at)) }
+    ensures item { min n (2 ^ 63 - 1 - at) ≤ MAX_ITEM → result ≡ Ok (min n (2 ^ 63 - 1 - at)) }
 {
     let most = n.min(PAST_ALL.saturating_sub(at));
     if most <= MAX_ITEM {
@@ -116,7 +169,8 @@ fn room_for(file: &File, at: u64, n: u64) -> Result<u64, Fault>
 /// Reads until the slice is full or the file ends, and says how many bytes were read. A slice without bytes
 /// takes no call of the system.
 fn read_into(file: &File, into: &mut [u8], at: u64) -> Result<usize, Fault>
-    ensures { IfOk result (λ n. n ≤ length into.new) }
+    ensures within { IfOk result (λ n. n ≤ length into.new) }
+    ensures nothing { length into.old ≡ 0 → result ≡ Ok 0 }
 {
     let mut got = 0;
     for _ in 0..u64::MAX {
@@ -132,8 +186,10 @@ fn read_into(file: &File, into: &mut [u8], at: u64) -> Result<usize, Fault>
     Err(Fault::Failed)
 }
 
-/// Writes all bytes, from a place on.
-pub fn write(file: &File, at: u64, bytes: &[u8]) -> Result<(), Fault> {
+/// Writes all bytes, from a place on. No bytes take no call of the system.
+pub fn write(file: &File, at: u64, bytes: &[u8]) -> Result<(), Fault>
+    ensures { bytes.now ≡ [] → IsOk result }
+{
     let mut put = 0;
     for _ in 0..u64::MAX {
         if put >= bytes.len() {
@@ -149,7 +205,10 @@ pub fn write(file: &File, at: u64, bytes: &[u8]) -> Result<(), Fault> {
 }
 
 /// A call that a signal interrupted is made again; another error is a fault.
-pub fn again_if_interrupted(error: io::Error) -> Result<(), Fault> {
+pub fn again_if_interrupted(error: io::Error) -> Result<(), Fault>
+    ensures interrupted { IsOk result ↔ (error_kind error ≡ Interrupted) }
+    ensures fault { IfErr result (IsFaultOf (error_kind error)) }
+{
     match error.kind() {
         ErrorKind::Interrupted => Ok(()),
         _ => Err(Fault::from(error)),
@@ -189,23 +248,23 @@ fn is_missing<R: RealFiles>(rt: &R, path: &str) -> bool {
 pub fn remove<R: RealFiles>(rt: &R, path: &str) -> Result<(), Fault> {
     match fs::remove_file(rt, path) {
         Ok(()) => Ok(()),
-        Err(error) => match error.kind() {
-            ErrorKind::NotFound => Ok(()),
-            _ => Err(Fault::from(error)),
-        },
+        Err(error) => pass_missing(error),
     }
 }
 
 /// The keys of the entries in a folder whose two digits are this byte, ascending. A name that isn't the other
 /// 38 digits of a key, in lower case, is skipped, and a folder that isn't found has none.
-pub fn list<R: RealFiles>(alloc: Global, rt: &R, folder: &str, byte: u8) -> Result<KeyList, Fault> {
+pub fn list<R: RealFiles>(alloc: Global, rt: &R, folder: &str, byte: u8) -> Result<KeyList, Fault>
+    ensures ascending { IfOk result (IsSorted ⟦<Key as Ord>⟧.cmp) }
+    ensures folder { IfOk result (All (StartsWith byte)) }
+{
     let mut keys = Vec::new(alloc);
     let entries = match fs::read_dir(&(rt, alloc), folder) {
         Ok(entries) => entries,
-        Err(error) => match error.kind() {
-            ErrorKind::NotFound => return Ok(KeyList::new(alloc)),
-            _ => return Err(Fault::from(error)),
-        },
+        Err(error) => {
+            pass_missing(error)?;
+            return Ok(KeyList::new(alloc));
+        }
     };
     for entry in entries {
         match entry {
@@ -223,33 +282,69 @@ pub fn list<R: RealFiles>(alloc: Global, rt: &R, folder: &str, byte: u8) -> Resu
     Ok(KeyList::from_vec(keys))
 }
 
-/// The key of an entry's file, by its folder's byte and the 38 digits that are its name.
-fn key_of_entry(byte: u8, name: &str) -> Option<Key> {
-    if name
-        .as_bytes()
-        .iter()
-        .any(|digit| digit.is_ascii_uppercase())
-    {
+/// The key of an entry's file, by its folder's byte and the 38 digits that are its name. Digits in upper case
+/// spell a key too, but are no entry's name.
+fn key_of_entry(byte: u8, name: &str) -> Option<Key>
+    ensures folder { IfSome result (StartsWith byte) }
+    ensures entry { (key : Key) → (result ≡ Some key) ↔ IsEntry byte name.now key }
+{
+    let Ok(rest) = <[u8; 19] as FromHex>::from_hex(name) else {
         return None;
+    };
+    if name_of(rest).as_slice() == name.as_bytes() {
+        Some(key_of(byte, rest))
+    } else {
+        None
     }
-    let rest = <[u8; 19] as FromHex>::from_hex(name).ok()?;
+}
+
+/// The key of these bytes.
+fn key_of(byte: u8, rest: [u8; 19]) -> Key
+    ensures { result.bytes ≡ byte ∷ rest }
+{
     let mut bytes = [byte; 20];
     bytes[1..].copy_from_slice(&rest);
-    Some(Key { bytes })
+    Key { bytes }
+}
+
+/// The name of an entry's file: the digits of its key but for the first byte.
+fn name_of(rest: [u8; 19]) -> [u8; 38]
+    ensures { result ≡ encode_lower rest }
+{
+    let mut digits = [0; 38];
+    match hex::encode_to_slice(rest, &mut digits) {
+        Ok(()) => digits,
+        Err(_) => unreachable!(),
+    }
 }
 
 /// The nanoseconds since 1970.
 pub fn now<R: Clock>(rt: &R) -> Result<u64, Fault> {
-    let since = rt.since_1970()?;
-    Ok(u64::try_from(since.as_nanos()).unwrap_or(u64::MAX))
+    Ok(nanos_of(rt.since_1970()?))
+}
+
+/// A time in nanoseconds, up to 2^64 - 1.
+fn nanos_of(time: Duration) -> u64
+    ensures { result ≡ min (as_nanos time) (2 ^ 64 - 1) }
+{
+    u64::try_from(time.as_nanos()).unwrap_or(u64::MAX)
 }
 
 /// Waits a little: a seat that has waited less often yields, one that has waited more often sleeps longer.
 pub fn wait<R: Clock>(rt: &R, waits: u32) {
+    match sleep_of(waits) {
+        Some(sleep) => thread::sleep(rt, Duration::from_micros(sleep)),
+        None => thread::yield_now(),
+    }
+}
+
+/// For how many microseconds a seat sleeps that has waited so often. At first it doesn't.
+fn sleep_of(waits: u32) -> Option<u64>
+    ensures { result ≡ sleep_after waits }
+{
     if waits < YIELDS {
-        thread::yield_now();
-        return;
+        return None;
     }
     let sleep = FIRST_SLEEP << (waits - YIELDS).min(6);
-    thread::sleep(rt, Duration::from_micros(sleep.min(LONGEST_SLEEP)));
+    Some(sleep.min(LONGEST_SLEEP))
 }

@@ -1,0 +1,14 @@
+-- Names of entries.
+use Rattle.std.specs.Prelude.{◌≡◌, ℕ, List, [], ◌∷◌, ◌++◌, get_or}
+use Rattle.hex.specs.Hex.{encode_lower}
+use Rattle.cache_types.specs.declared.key.Key.{Key}
+use Rattle.path_names.specs.Paths.{IsKeyOfBytes}
+
+-- the folder of this byte has an entry of this name, and its key is this: the folder's two digits and the name are the key's
+pub record IsEntry (byte : ℕ) (name : List ℕ) (key : Key) : Type 0 where
+  pub key_is : IsKeyOfBytes key
+  pub digits : encode_lower key.bytes ≡ encode_lower (byte ∷ []) ++ name
+
+-- a key whose first byte is this
+abbrev pub StartsWith : ℕ → Key → Type 0
+StartsWith byte key = get_or key.bytes 0 0 ≡ byte
