@@ -5,11 +5,12 @@ use Rattle.cache_types.specs.declared.key.Key.{Key}
 use Rattle.cache_types.specs.declared.seat.Who.{Who}
 use Rattle.file_log.specs.Disk.{Disk}
 use Rattle.file_log.specs.State.{first}
+use Rattle.folder_rules.specs.Holds.{Address}
+use Rattle.folder_rules.specs.Whole.{folder_of}
 use Rattle.log_summary.specs.Summary.{BegunPut, OpenEvict, Summary, nothing, read_for}
 use Rattle.operation_ledger.specs.Had.{IsNamesHad}
 use Rattle.operation_ledger.specs.Operations.{AreOperations}
-use Rattle.rule_cases.specs.Cases.{is_put_at}
-use Rattle.rule_checks.specs.Tests.{implies, evicts}
+use Rattle.rule_checks.specs.Tests.{implies, same_store, same_key, evicts}
 use Rattle.world_log.specs.Grouping.{AreGrouped}
 use Rattle.world_log.specs.declared.ledger.Ledger.{Ledger}
 use Rattle.world_tables.specs.Tables.{disk_at}
@@ -18,7 +19,7 @@ use Rattle.world_tables.specs.declared.tables.Tables.{Tables}
 -- all but the names that files have had is what the summary says
 pub record CarriesRest (ledger : Ledger) (s : Summary) : Type 0 where
   pub operations : AreOperations ledger.operations s
-  pub puts : AreGrouped ledger.puts.items s.puts
+  pub puts : AreGrouped ledger.puts s.puts
   pub evicting : ledger.evicting.items ≡ s.evicting
   pub rough : ledger.rough ≡ s.rough
 
@@ -35,6 +36,11 @@ summary_with d puts evicting rough = record { state = record { disk = d; halted 
 abbrev pub told_by : List BegunPut → Ledger → Tables → Summary
 told_by puts ledger tables = summary_with (disk_at tables) puts ledger.evicting.items ledger.rough
 
--- what an entry's old file holds of a put is held by its new one, or is being evicted by the seat
+-- what an entry's old file holds of an address is held by its new one, or is being evicted by the seat
+abbrev pub keeps_at : List OpenEvict → Who → ℕ → Key → Option (List ℕ) → Option (List ℕ) → Address → Bool
+keeps_at evicting who root key old new at =
+    implies (same_store at.store (folder_of root) && same_key at.key key && is_some (read_for at.driver old)) (is_some (read_for at.driver new) || list_any (evicts who at) evicting)
+
+-- what it holds of a put is
 abbrev pub keeps_put : List OpenEvict → Who → ℕ → Key → Option (List ℕ) → Option (List ℕ) → BegunPut → Bool
-keeps_put evicting who root key old new p = implies (is_put_at root key p && is_some (read_for p.at.driver old)) (is_some (read_for p.at.driver new) || list_any (evicts who p.at) evicting)
+keeps_put evicting who root key old new p = keeps_at evicting who root key old new p.at

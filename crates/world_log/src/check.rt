@@ -23,8 +23,8 @@ use std::alloc::Global;
 /// wasn't put, or the answer of a lookup that doesn't find what is promised to it; its number is the first
 /// such. Else `Good`. No hit is unlicensed and no lookup fails to find before a rule is broken
 /// (`folder_laws::all_are_served`), so legality and the rules alone are tested. What the rules ask of the
-/// log's past is carried along it, not made anew at each place. A rename or a removal of an entry looks at
-/// each put that began under its root and key, another item at none.
+/// log's past is carried along it, not made anew at each place. A rename or a removal of an entry reads
+/// its file once for each address that puts under its root and key began with, another item at none.
 ///
 /// # Errors
 ///

@@ -1,90 +1,85 @@
 //! The puts that began, by the root and the key that they are under.
 
-ghost use Rattle.std.specs.Prelude.{◌≡◌, ◌++◌, ◌∷◌, [], ℕ, OnOk, if◌then◌else◌};
-ghost use Rattle.cache_types.specs.declared.key.Key.{Key as TheKey};
-ghost use Rattle.world_log.specs.Grouping.{same_entry, place_in, puts_under as the_puts, Gains};
+ghost use Rattle.std.specs.Prelude.{◌≡◌, ◌∷◌, [], position, OnOk, OnErr};
+ghost use Rattle.rule_checks.specs.Tests.{same_address};
+ghost use Rattle.world_log.specs.Grouping.{put_under, records_under, AreGrouped, Gains, GainsThere};
 
-use crate::puts::BegunPut;
-use crate::same::same_key;
-use cache_types::{Key, NoMemory};
+use crate::address::Address;
+use crate::puts_at::PutsAt;
+use cache_types::{Bytes, Key, NoMemory};
 use std::alloc::Global;
+use std::collections::HashMap;
 
-/// The puts under a root and a key, in the order of their Begins.
+/// What puts are looked up by: their root and their key.
+#[derive(Clone, Copy, Debug, PartialEq, Eq, Hash)]
+pub struct PutPlace {
+    pub root: u32,
+    pub key: Key,
+}
+
+/// The puts that began, by root and key, and there by their addresses.
 #[derive(Debug, Drop)]
-pub struct PutGroup {
-    root: u32,
-    key: Key,
-    puts: Vec<BegunPut>,
+pub struct PutGroups {
+    pub by_place: HashMap<PutPlace, Vec<PutsAt>>,
 }
 
-impl PutGroup {
-    /// Whether it is of this root and key.
-    fn is_of(&self, root: u32, key: Key) -> bool
-        ensures { result ≡ same_entry self.now.root self.now.key root key }
-    {
-        self.root == root && same_key(self.key, key)
-    }
-
-    /// Adds a put at the end.
-    fn push(&mut self, put: BegunPut) -> Result<(), NoMemory>
-        ensures root { self.new.root ≡ self.old.root }
-        ensures key { self.new.key ≡ self.old.key }
-        ensures puts { OnOk result (self.new.puts.items ≡ self.old.puts.items ++ put ∷ []) }
-    {
-        self.puts.push(put)?;
-        Ok(())
-    }
-}
-
-/// The puts under a root and a key.
-pub fn puts_under(groups: &[PutGroup], root: u32, key: Key) -> &[BegunPut]
-    ensures { result.now ≡ the_puts root key groups.now }
+/// Where the record of an address stands among these.
+fn place_of(records: &[PutsAt], at: &Address) -> Option<usize>
+    ensures { result ≡ position (λ r. same_address r.at at.now) records.now }
 {
-    let mut rest = groups;
-    while let [first, tail @ ..] = rest {
-        if first.is_of(root, key) {
-            return first.puts.as_slice();
+    records.iter().position(|record| record.at.is(at))
+}
+
+/// Adds a put to the record of its address, which is made where it isn't there. A refusal adds
+/// none.
+fn add_to(
+    alloc: Global,
+    records: &mut Vec<PutsAt>,
+    at: Address,
+    blob: Bytes,
+) -> Result<(), NoMemory>
+    ensures ok { OnOk result (GainsThere records.old.items records.new.items (put_under at blob ∷ [])) }
+    ensures err { OnErr result (GainsThere records.old.items records.new.items []) }
+{
+    match place_of(records, &at) {
+        Some(place) => records[place].push(blob),
+        None => {
+            records.push(PutsAt::new(alloc, at, blob))?;
+            Ok(())
         }
-        rest = tail;
     }
-    &[]
 }
 
-/// How many groups stand before that of a root and a key, all where it has none.
-fn place_of(groups: &[PutGroup], root: u32, key: Key) -> usize
-    ensures { result ≡ place_in root key groups.now }
-{
-    let mut place: usize = 0;
-    let mut rest = groups;
-    while let [first, tail @ ..] = rest {
-        if first.is_of(root, key) {
-            return place;
+impl PutGroups {
+    /// None. Takes no memory.
+    pub fn new(alloc: Global) -> PutGroups
+        ensures { AreGrouped result [] }
+    {
+        PutGroups {
+            by_place: HashMap::new(alloc),
         }
-        place += 1;
-        rest = tail;
     }
-    place
-}
 
-/// Adds a group of this put alone, before all others.
-fn add_group(alloc: Global, groups: &mut Vec<PutGroup>, put: BegunPut) -> Result<(), NoMemory>
-    ensures { OnOk result ((root : ℕ) (key : TheKey) → the_puts root key groups.new.items ≡ (if same_entry put.at.store.root put.at.key root key then put ∷ [] else the_puts root key groups.old.items)) }
-{
-    let root = put.at.store.root;
-    let key = put.at.key;
-    let mut puts = Vec::new(alloc);
-    puts.push(put)?;
-    groups.insert(0, PutGroup { root, key, puts })?;
-    Ok(())
-}
-
-/// Adds a put to its group, which is made where it isn't there.
-pub fn add(alloc: Global, groups: &mut Vec<PutGroup>, put: BegunPut) -> Result<(), NoMemory>
-    ensures { OnOk result (Gains groups.old.items groups.new.items (put ∷ [])) }
-{
-    let place = place_of(groups, put.at.store.root, put.at.key);
-    if place < groups.len() {
-        return groups[place].push(put);
+    /// The puts under a root and a key.
+    pub fn under(&self, place: &PutPlace) -> &[PutsAt]
+        ensures { result.now ≡ records_under place.now.root place.now.key self.now }
+    {
+        match self.by_place.get(place) {
+            None => &[],
+            Some(records) => records.as_slice(),
+        }
     }
-    add_group(alloc, groups, put)
+
+    /// Adds a put. A refusal adds none.
+    pub fn add(&mut self, alloc: Global, at: Address, blob: Bytes) -> Result<(), NoMemory>
+        ensures ok { OnOk result (Gains self.old self.new (put_under at blob ∷ [])) }
+        ensures err { OnErr result (Gains self.old self.new []) }
+    {
+        let place = PutPlace {
+            root: at.store.root,
+            key: at.key,
+        };
+        let records = self.by_place.entry(place)?.or_insert(Vec::new(alloc));
+        add_to(alloc, records, at, blob)
+    }
 }

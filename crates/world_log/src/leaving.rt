@@ -40,7 +40,7 @@ impl Ledger {
         file: usize,
         to: &Name,
     ) -> Result<bool, NoMemory>
-        ensures { IfOk result (λ may. (puts : List ThePut) → AreGrouped self.now.puts.items puts → may ≡ cases.comes_well (told_by puts self.now tables.now) who from.now file to.now) }
+        ensures { IfOk result (λ may. (puts : List ThePut) → AreGrouped self.now.puts puts → may ≡ cases.comes_well (told_by puts self.now tables.now) who from.now file to.now) }
     {
         match to {
             Name::Entry { root, key } => self.entry_comes(tables, who, *root, *key, from, file),
@@ -56,7 +56,7 @@ impl Ledger {
         from: &Name,
         to: &Name,
     ) -> Result<bool, NoMemory>
-        ensures { IfOk result (λ may. (puts : List ThePut) → AreGrouped self.now.puts.items puts → may ≡ cases.passes_renaming (told_by puts self.now tables.now) who from.now to.now ((disk_at tables.now).names from.now)) }
+        ensures { IfOk result (λ may. (puts : List ThePut) → AreGrouped self.now.puts puts → may ≡ cases.passes_renaming (told_by puts self.now tables.now) who from.now to.now ((disk_at tables.now).names from.now)) }
     {
         let Some(file) = file_named(tables, from) else {
             return Ok(true);
@@ -72,7 +72,7 @@ impl Ledger {
 
     /// Whether a name's file may go, an entry's only as an entry goes.
     fn goes_well(&self, tables: &Tables, who: Who, name: &Name) -> bool
-        ensures { (puts : List ThePut) → AreGrouped self.now.puts.items puts → result ≡ cases.goes_well (told_by puts self.now tables.now) who name.now }
+        ensures { (puts : List ThePut) → AreGrouped self.now.puts puts → result ≡ cases.goes_well (told_by puts self.now tables.now) who name.now }
     {
         match name {
             Name::Entry { root, key } => self.entry_goes(tables, who, *root, *key),
@@ -82,7 +82,7 @@ impl Ledger {
 
     /// Whether a name may be removed.
     pub fn passes_removing(&self, tables: &Tables, who: Who, name: &Name) -> bool
-        ensures { (puts : List ThePut) → AreGrouped self.now.puts.items puts → result ≡ cases.passes_removing (told_by puts self.now tables.now) who name.now ((disk_at tables.now).names name.now) }
+        ensures { (puts : List ThePut) → AreGrouped self.now.puts puts → result ≡ cases.passes_removing (told_by puts self.now tables.now) who name.now ((disk_at tables.now).names name.now) }
     {
         match file_named(tables, name) {
             None => true,

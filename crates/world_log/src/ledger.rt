@@ -7,7 +7,7 @@ ghost use Rattle.world_log.specs.Ledgers.{CarriesRest, Carries};
 ghost use Rattle.world_tables.specs.Tables.{disk_at};
 
 use crate::evictions::{OpenEvict, follow_evict};
-use crate::groups::PutGroup;
+use crate::groups::PutGroups;
 use crate::puts::follow_put;
 use cache_types::NoMemory;
 use file_log::LogItem;
@@ -24,7 +24,7 @@ pub struct Ledger {
     /// The operations that seats are in.
     pub operations: Operations,
     /// The puts that began, by root and key.
-    pub puts: Vec<PutGroup>,
+    pub puts: PutGroups,
     /// The open Evicts, the last first.
     pub evicting: Vec<OpenEvict>,
     /// Whether a process was stopped or a call failed.
@@ -51,7 +51,7 @@ impl Ledger {
             alloc,
             names: NamesHad::new(alloc),
             operations: Operations::new(alloc),
-            puts: Vec::new(alloc),
+            puts: PutGroups::new(alloc),
             evicting: Vec::new(alloc),
             rough: false,
         }

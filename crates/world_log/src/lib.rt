@@ -14,6 +14,7 @@ mod looks;
 mod making;
 mod passing;
 mod puts;
+mod puts_at;
 mod same;
 mod verdict;
 
