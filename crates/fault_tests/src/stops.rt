@@ -1,37 +1,53 @@
+ghost use Rattle.file_log.specs.Seat.{IsIdle};
+
 use cache_types::Name;
+use files_api::Files;
 use memory_files::MemFiles;
+use std::alloc::Global;
+use std::process::Abort;
 use std::test::Fail;
 use test_calls::{K1, K1_TEXT, ME, NEXT, hit, miss, put};
 
-/// The put of `abc` is stopped after each of its items. A lookup by another process then hits or misses, and
-/// the same put is stored where it missed and kept where it hit.
+/// A lookup of `abc` by another process after a stop, which hits or misses; then the same put, which is stored
+/// where it missed and kept where it hit; then a lookup that hits. Whether the first one did.
+fn goes_on<F: Files>(
+    rt: &impl Abort,
+    alloc: Global,
+    left: &mut F,
+    stopped_after: u64,
+) -> Result<bool, Fail>
+    requires { IsIdle (F.seen left.old) }
+{
+    let has_missed = miss("--id=d", K1_TEXT).take(alloc, left)?;
+    let printed: &[u8] = if has_missed { b"stored\n" } else { b"kept\n" };
+    assert!(rt;
+        put("--id=d", K1_TEXT, b"abc", printed).take(alloc, left)?,
+        "stopped after {stopped_after}"
+    );
+    assert!(rt;
+        hit("--id=d", K1_TEXT, b"abc").take(alloc, left)?,
+        "stopped after {stopped_after}"
+    );
+    Ok(!has_missed)
+}
+
+/// The put of `abc` is stopped after each of its items, and another process goes on.
 #[test]
 fn a_put_that_was_stopped_does_no_harm(rt: HostRuntime) -> Result<(), Fail> {
     let alloc = rt.alloc();
     let mut files = MemFiles::new(alloc, ME)?;
-    let turn = put("--id=d", K1_TEXT, b"abc", b"stored\n");
-    assert!(rt; turn.take(alloc, &mut files)?);
+    assert!(rt; put("--id=d", K1_TEXT, b"abc", b"stored\n").take(alloc, &mut files)?);
     let whole = files.world().log_len();
-    let mut hits = Vec::new(alloc);
+    let mut hits: u64 = 0;
     for n in 0..=whole {
         assert!(rt; files.may_follow(n, NEXT)?);
         let mut left = files.stopped_after(n, NEXT)?;
-        if miss("--id=d", K1_TEXT).take(alloc, &mut left)? {
-            assert!(rt; turn.take(alloc, &mut left)?, "stopped after {n}");
-        } else {
-            hits.push(n)?;
-            assert!(rt;
-                put("--id=d", K1_TEXT, b"abc", b"kept\n").take(alloc, &mut left)?,
-                "stopped after {n}"
-            );
+        if goes_on(&rt, alloc, &mut left, n)? {
+            hits = hits.saturating_add(1);
         }
-        assert!(rt;
-            hit("--id=d", K1_TEXT, b"abc").take(alloc, &mut left)?,
-            "stopped after {n}"
-        );
     }
     // From the renaming on: after it, after each of the two closings, and after the End.
-    assert_eq!(rt; hits.len(), 4);
+    assert_eq!(rt; hits, 4);
     Ok(())
 }
 
