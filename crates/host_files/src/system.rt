@@ -348,3 +348,6 @@ fn sleep_of(waits: u32) -> Option<u64>
     let sleep = FIRST_SLEEP << (waits - YIELDS).min(6);
     Some(sleep.min(LONGEST_SLEEP))
 }
+
+#[cfg(test)]
+mod tests;

@@ -1,17 +1,19 @@
 ghost use Rattle.std.specs.Prelude.{IfOk};
 ghost use Rattle.file_log.specs.Seat.{IsIdle};
 
+mod calls;
+
 use crate::HostFiles;
-use cache_types::{Bytes, Key, Name, NoMemory, Request, Text, TextList, Who};
-use file_log::{Call, Note, Reply};
+use cache_types::{Bytes, Name, NoMemory, Text, TextList, Who};
+use calls::{KEY, cut, look_up, make, pause, remove, rename, time};
+use file_log::Reply;
 use files_api::Files;
 use path_names::Paths;
 use std::alloc::Global;
 use std::fs::File;
 use std::rt::{Clock, Files as RealFiles};
+use std::time::Duration;
 use std::{fs, io};
-
-const KEY: Key = Key { bytes: [7; 20] };
 
 const ME: Who = Who {
     process: 0,
@@ -53,70 +55,6 @@ fn files_with_list<R: RealFiles<File = File> + Clock + Drop>(
     HostFiles::new(alloc, rt, ME, paths)
 }
 
-/// What a lookup finds in a name's file, or the reply that ends it.
-fn look_up<F: Files>(files: &mut F, name: Name) -> Reply
-    requires { IsIdle (F.seen files.old) }
-{
-    let request = Request::HasKey { root: 0, key: KEY };
-    let Reply::Done = files.call(Call::Tell(Note::Begin(request))) else {
-        return Reply::Failed;
-    };
-    match files.call(Call::OpenOld { slot: 0, name }) {
-        Reply::Done => {}
-        reply => return reply,
-    }
-    let Reply::Number(n) = files.call(Call::Length { slot: 0 }) else {
-        return Reply::Failed;
-    };
-    let Reply::Got(bytes) = files.call(Call::ReadAt { slot: 0, at: 0, n }) else {
-        return Reply::Failed;
-    };
-    files.call(Call::Close { slot: 0 });
-    Reply::Got(bytes)
-}
-
-/// What a writer is answered at last that makes a name's file and writes these bytes at a place.
-fn make<F: Files>(files: &mut F, name: Name, at: u64, bytes: Bytes) -> Reply
-    requires { IsIdle (F.seen files.old) }
-{
-    let request = Request::PutKey { root: 0, key: KEY };
-    let Reply::Done = files.call(Call::Tell(Note::Begin(request))) else {
-        return Reply::Failed;
-    };
-    let Reply::Done = files.call(Call::OpenNew { slot: 3, name }) else {
-        return Reply::Failed;
-    };
-    match files.call(Call::TryLock { slot: 3 }) {
-        Reply::Done => {}
-        reply => return reply,
-    }
-    let Reply::Done = files.call(Call::WriteAt { slot: 3, at, bytes }) else {
-        return Reply::Failed;
-    };
-    let Reply::Done = files.call(Call::Cut {
-        slot: 3,
-        n: 1 << 40,
-    }) else {
-        return Reply::Failed;
-    };
-    files.call(Call::ReadAt {
-        slot: 3,
-        at: (1 << 63) - 2,
-        n: u64::MAX,
-    })
-}
-
-/// What a renaming is answered.
-fn rename<F: Files>(files: &mut F, from: Name, to: Name) -> Reply
-    requires { IsIdle (F.seen files.old) }
-{
-    let request = Request::PutKey { root: 0, key: KEY };
-    let Reply::Done = files.call(Call::Tell(Note::Begin(request))) else {
-        return Reply::Failed;
-    };
-    files.call(Call::Rename { from, to })
-}
-
 /// Only files that a thread can take over pass.
 fn is_send<T: Send>(_files: &T) -> bool {
     true
@@ -132,6 +70,14 @@ fn word(reply: &Reply) -> &'static str {
         Reply::Got(bytes) if bytes.as_slice() == b"abc".as_slice() => "abc",
         Reply::Failed => "failed",
         _ => "another",
+    }
+}
+
+/// The number of a reply.
+fn number(reply: &Reply) -> Option<u64> {
+    match reply {
+        Reply::Number(n) => Some(*n),
+        _ => None,
     }
 }
 
@@ -239,4 +185,111 @@ fn writes_what_is_asked_for(rt: HostRuntime) -> io::Result<()> {
     };
     assert_eq!(rt; keys.as_slice(), [before, KEY].as_slice());
     fs::remove_dir_all(&rt, folder)
+}
+
+#[test]
+fn cuts_and_removes(rt: HostRuntime) -> io::Result<()> {
+    let alloc = rt.alloc();
+    let folder = "cuts_and_removes";
+    let _ = fs::remove_dir_all(&rt, folder);
+    fs::create_dir(&rt, folder)?;
+    fs::write(&rt, "cuts_and_removes/index", "abc")?;
+    fs::create_dir(&rt, "cuts_and_removes/mesa_cache.db")?;
+    let index = || Name::KeyIndex { root: 0 };
+
+    // A cut never makes a file longer.
+    let first = files_under(alloc, rt, folder);
+    let second = files_under(alloc, rt, folder);
+    let (Ok(mut first), Ok(mut second)) = (first, second) else {
+        panic!(rt; "no memory");
+    };
+    assert_eq!(rt; number(&cut(&mut first, index(), 5)), Some(3));
+    assert_eq!(rt; number(&cut(&mut second, index(), 2)), Some(2));
+    assert_eq!(rt;
+        fs::read(&rt, "cuts_and_removes/index")?.as_slice(),
+        b"ab".as_slice()
+    );
+
+    let names = [
+        (index(), "done", "missing"),
+        (Name::Idx { root: 0 }, "done", "missing"),
+        (Name::Db { root: 0 }, "failed", "failed"),
+    ];
+    for (name, want, found) in names {
+        let first = files_under(alloc, rt, folder);
+        let second = files_under(alloc, rt, folder);
+        let (Ok(again), Ok(mut first), Ok(mut second)) = (name.copy(), first, second) else {
+            panic!(rt; "no memory");
+        };
+        assert_eq!(rt; word(&remove(&mut first, again)), want);
+        assert_eq!(rt; word(&look_up(&mut second, name)), found);
+    }
+    fs::remove_dir_all(&rt, folder)
+}
+
+#[test]
+fn renames_what_is_there(rt: HostRuntime) -> io::Result<()> {
+    let alloc = rt.alloc();
+    let folder = "renames_what_is_there";
+    let _ = fs::remove_dir_all(&rt, folder);
+    fs::create_dir(&rt, folder)?;
+    fs::write(&rt, "renames_what_is_there/index", "abc")?;
+    let entry = || Name::Entry { root: 0, key: KEY };
+    let first = files_under(alloc, rt, folder);
+    let second = files_under(alloc, rt, folder);
+    let (Ok(mut first), Ok(mut second)) = (first, second) else {
+        panic!(rt; "no memory");
+    };
+
+    // The entry's folder isn't there: a fault, but where there is nothing to rename.
+    assert_eq!(rt;
+        word(&rename(&mut first, Name::KeyIndex { root: 0 }, entry())),
+        "failed"
+    );
+    assert_eq!(rt;
+        word(&rename(&mut second, Name::Idx { root: 0 }, entry())),
+        "done"
+    );
+    assert_eq!(rt;
+        fs::read(&rt, "renames_what_is_there/index")?.as_slice(),
+        b"abc".as_slice()
+    );
+    fs::remove_dir_all(&rt, folder)
+}
+
+/// A file that Linux lets nobody write, not even root.
+#[test]
+fn reads_what_cannot_be_written(rt: HostRuntime) -> io::Result<()> {
+    let alloc = rt.alloc();
+    let list = "/sys/devices/system/cpu/online";
+    if fs::metadata(&rt, list).is_err() {
+        return Ok(());
+    }
+    let Ok(mut files) = files_with_list(alloc, rt, "reads_what_cannot_be_written", list) else {
+        panic!(rt; "no memory");
+    };
+    assert!(rt; matches!(look_up(&mut files, Name::List), Reply::Got(bytes) if !bytes.is_empty()));
+    Ok(())
+}
+
+#[test]
+fn tells_the_time_and_waits(rt: HostRuntime) -> io::Result<()> {
+    let alloc = rt.alloc();
+    let folder = "tells_the_time_and_waits";
+    let first = files_under(alloc, rt, folder);
+    let second = files_under(alloc, rt, folder);
+    let (Ok(mut first), Ok(mut second)) = (first, second) else {
+        panic!(rt; "no memory");
+    };
+    let before = rt.since_1970()?.as_nanos();
+    let now = number(&time(&mut first)).map(u128::from);
+    let after = rt.since_1970()?.as_nanos();
+    assert!(rt; now >= Some(before) && now <= Some(after));
+
+    // Four pauses without a sleep, then 50, 100, 200, 400, 800, 1600, 2000 and 2000 microseconds.
+    let start = rt.monotonic()?;
+    assert_eq!(rt; word(&pause(&mut second)), "done");
+    let waited = rt.monotonic()?.saturating_sub(start);
+    assert!(rt; waited >= Duration::from_micros(7_150));
+    Ok(())
 }
