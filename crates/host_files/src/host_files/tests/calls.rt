@@ -1,6 +1,6 @@
 //! What a seat is answered that makes a few calls in a row.
 
-ghost use Rattle.std.specs.Prelude.{◌≡◌, false};
+ghost use Rattle.std.specs.Prelude.{◌≡◌, false, IsTrue};
 ghost use Rattle.file_log.specs.Seat.{IsIdle};
 
 use cache_types::{Bytes, Key, Name, Request};
@@ -113,26 +113,32 @@ pub fn time<F: Files>(files: &mut F) -> Reply
     files.call(Call::Now)
 }
 
-/// What the last of twelve pauses in a row is answered.
-pub fn pause<F: Files>(files: &mut F) -> Reply
+/// Whether twelve pauses in a row are done.
+pub fn pause_often<F: Files>(files: &mut F) -> bool
     requires { IsIdle (F.seen files.old) }
 {
     let request = Request::HasKey { root: 0, key: KEY };
     let Reply::Done = files.call(Call::Tell(Note::Begin(request))) else {
-        return Reply::Failed;
+        return false;
     };
-    pause_four_times(files);
-    pause_four_times(files);
-    pause_four_times(files)
+    pause_four_times(files) && pause_four_times(files) && pause_four_times(files)
 }
 
-/// What the last of four pauses is answered.
-fn pause_four_times<F: Files>(files: &mut F) -> Reply
+/// Whether four pauses are done.
+fn pause_four_times<F: Files>(files: &mut F) -> bool
     requires { (F.seen files.old).hurt ≡ false }
-    ensures { (F.seen files.new).hurt ≡ false }
+    ensures { IsTrue result → (F.seen files.new).hurt ≡ false }
 {
-    files.call(Call::Pause);
-    files.call(Call::Pause);
-    files.call(Call::Pause);
-    files.call(Call::Pause)
+    pause(files) && pause(files) && pause(files) && pause(files)
+}
+
+/// Whether a pause is done.
+fn pause<F: Files>(files: &mut F) -> bool
+    requires { (F.seen files.old).hurt ≡ false }
+    ensures { IsTrue result → (F.seen files.new).hurt ≡ false }
+{
+    match files.call(Call::Pause) {
+        Reply::Done => true,
+        _ => false,
+    }
 }
