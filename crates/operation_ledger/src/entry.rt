@@ -10,20 +10,17 @@ use crate::tables::bytes_of;
 use cache_types::{Bytes, Driver, Key, Layout, Name, NoMemory, Request, Store};
 use item_frame::{ItemRefusal, read_blob};
 use std::alloc::Global;
-use world_tables::{Tables, number_of};
+use world_tables::Tables;
 
 /// The number of the file that a key's entry has in a store.
 fn entry_in(tables: &Tables, store: Store, key: Key) -> Option<usize>
     ensures { result ≡ entry_by store.layout (disk_at tables.now) store.root key }
 {
     match store.layout {
-        Layout::Folder => number_of(
-            &tables.names,
-            &Name::Entry {
-                root: store.root,
-                key,
-            },
-        ),
+        Layout::Folder => tables.names.number_of(&Name::Entry {
+            root: store.root,
+            key,
+        }),
         _ => None,
     }
 }

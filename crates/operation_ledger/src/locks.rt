@@ -13,7 +13,7 @@ ghost use Rattle.world_tables.specs.Tables.{disk_at};
 
 use crate::names_had::NamesHad;
 use cache_types::{Name, Request};
-use world_tables::{Tables, number_of};
+use world_tables::Tables;
 
 /// The root that a request speaks of.
 pub fn root_of(request: &Request) -> u32
@@ -62,7 +62,7 @@ fn is_lock_of(root: u32, name: &Name) -> bool
 fn has_file(tables: &Tables, name: &Name, file: usize) -> bool
     ensures { result ≡ is_file file ((disk_at tables.now).names name.now) }
 {
-    match number_of(&tables.names, name) {
+    match tables.names.number_of(name) {
         None => false,
         Some(other) => other == file,
     }

@@ -9,7 +9,7 @@ use crate::name_list::NameList;
 use cache_types::{Bytes, Name, NoMemory, Text};
 use file_log::{Call, LogItem, Reply};
 use std::alloc::Global;
-use world_tables::{Tables, number_of};
+use world_tables::Tables;
 
 /// The names that each file has had, by the file's number.
 #[derive(Debug, Drop)]
@@ -113,11 +113,11 @@ impl NamesHad {
         ensures err { OnErr result (HaveSame self.old.files.items self.new.files.items) }
     {
         match call {
-            Call::OpenNew { slot: _, name } => match number_of(&tables.names, name) {
+            Call::OpenNew { slot: _, name } => match tables.names.number_of(name) {
                 None => self.gain(tables.files.len(), name.copy()?),
                 Some(_) => Ok(()),
             },
-            Call::Rename { from, to } => match number_of(&tables.names, from) {
+            Call::Rename { from, to } => match tables.names.number_of(from) {
                 None => Ok(()),
                 Some(file) => self.gain(file, to.copy()?),
             },

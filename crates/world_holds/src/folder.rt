@@ -8,7 +8,7 @@ use cache_types::{Bytes, Driver, Key, Name, NoMemory};
 use file_model::World;
 use item_frame::{ItemRefusal, read_blob};
 use std::alloc::Global;
-use world_tables::{bytes_in, number_of};
+use world_tables::bytes_in;
 
 /// The blob that the bytes of a file read as for a driver, if they do.
 fn blob_in(alloc: Global, driver: &Driver, bytes: &[u8]) -> Result<Option<Bytes>, NoMemory>
@@ -33,7 +33,7 @@ pub fn folder_gives(
 {
     let tables = world.tables();
     let entry = Name::Entry { root, key: *key };
-    let file = number_of(&tables.names, &entry);
+    let file = tables.names.number_of(&entry);
     if file.is_none() {
         return Ok(None);
     }

@@ -9,13 +9,13 @@ ghost use Rattle.world_tables.specs.Tables.{disk_at};
 
 use cache_types::{Driver, Name, Who};
 use item_frame::check_item;
-use world_tables::{Tables, file_in, number_of};
+use world_tables::{Tables, file_in};
 
 /// The number of the file that a name has.
 pub fn file_named(tables: &Tables, name: &Name) -> Option<usize>
     ensures { result ≡ (disk_at tables.now).names name.now }
 {
-    number_of(&tables.names, name)
+    tables.names.number_of(name)
 }
 
 /// Whether a name has the file with this number.

@@ -1,5 +1,6 @@
 pub mod Runs
 pub mod Finds
+pub mod Numbers
 pub mod Holding
 pub mod Disks
 pub mod Starts

@@ -3,6 +3,7 @@ use Rattle.std.proofs.Common.{◌≡◌, ◌<◌, ◌⊎◌, inl, inr, ℕ, zero
 use Rattle.std.specs.Prelude.{IsSome}
 use Rattle.std.specs.List.{Contains, cons_option}
 use Rattle.std.specs.List.Sorted.{IsStrictlySortedBy}
+use Rattle.std.specs.Map.{keys_of, lookup}
 use Rattle.std.specs.Cmp.{IsTotalOrder, IsEquivalence, unsigned_ties}
 use Rattle.std.specs.Cmp.Lexicographic.{slice_cmp, pointwise, bytes_decides, lists_ties}
 use Rattle.std.specs.Ordering.{nat_cmp, ordering_then, eq_by_cmp}
@@ -10,14 +11,10 @@ use Rattle.std.specs.declared.cmp.Ordering.{Ordering}
 use Rattle.std.specs.declared.cmp.Ordering.TheVariants.{Less, Greater}
 use Rattle.std.proofs.lemmas.Bool.{eqb-true, eq-eqb}
 use Rattle.std.proofs.lemmas.Cmp.{ranked, by_ranked, on_total, on_equiv, nat_list_cmp_total, nat_list_eq_equiv}
-use Rattle.cache_types.specs.Names.{same_name}
 use Rattle.cache_types.specs.declared.key.Key.{Key}
-use Rattle.cache_types.specs.declared.name.Name.{Name}
-use Rattle.cache_types.specs.declared.name.Name.TheVariants as names
-use Rattle.cache_types.proofs.Names.{same_name_decides}
 use Rattle.file_log.specs.Legal.{ComesBefore, AreAscending}
-use Rattle.world_tables.specs.declared.parts.NamedFile.{NamedFile}
-use Rattle.world_tables.specs.Find.{number_of}
+use Rattle.world_tables.specs.declared.names.KeyPlace.{KeyPlace}
+use Rattle.world_tables.specs.Find.{same_place}
 use Rattle.world_tables.specs.Listing.{key_in, keys_in}
 
 -- ---- their order
@@ -72,22 +69,37 @@ later : {A : Type 0} (o : Option A) (x : A) (xs : List A) → Contains xs x → 
 later None x xs h = h
 later (Some y) x xs h = (suc h.0, omega (arith, h.1), h.2)
 
--- the folder has this entry
-abbrev IsThere : ℕ → ℕ → List NamedFile → Key → Type 0
-IsThere root byte files key = IsSome (number_of files (names.Entry root key)) × (get_or key.bytes 0 0 ≡ byte)
+abbrev place_of : ℕ → Key → KeyPlace
+place_of root key = record { root = root; key = key }
 
-is_entry : (root byte : ℕ) (name : Name) (key : Key) → key_in root byte name ≡ Some key → (name ≡ names.Entry root key) × (get_or key.bytes 0 0 ≡ byte)
-is_entry root byte (names.Entry other own) key e = chosen (nat_eq other root) (nat_eq (get_or own.bytes 0 0) byte) refl refl e
+both : (a b : Bool) → (a && b) ≡ true → (a ≡ true) × (b ≡ true)
+both true b e = (refl, e)
+both false b e = absurd cc
+
+same_place-true : (a b : KeyPlace) → same_place a b ≡ true → a ≡ b
+same_place-true a b e =
+    let p = both (nat_eq a.root b.root) (same_key a.key b.key) e in
+    let root : a.root ≡ b.root = eqb-true a.root b.root p.0 in
+    ap (λ (n : ℕ). place_of n a.key) root ∙ ap (λ (k : Key). place_of b.root k) (same_key-true a.key b.key p.1)
+
+same_place-self : (a : KeyPlace) → same_place a a ≡ true
+same_place-self a = rw (eq-eqb a.root a.root refl, (bytes_decides a.key.bytes a.key.bytes).1 refl) refl
+
+-- the folder has this entry
+abbrev IsThere : ℕ → ℕ → List (KeyPlace × ℕ) → Key → Type 0
+IsThere root byte entries key = IsSome (lookup (same_place (place_of root key)) entries) × (get_or key.bytes 0 0 ≡ byte)
+
+is_entry : (root byte : ℕ) (place : KeyPlace) (key : Key) → key_in root byte place ≡ Some key → (place ≡ place_of root key) × (get_or key.bytes 0 0 ≡ byte)
+is_entry root byte place key e = chosen (nat_eq place.root root) (nat_eq (get_or place.key.bytes 0 0) byte) refl refl e
   where
-    chosen : (p q : Bool) → nat_eq other root ≡ p → nat_eq (get_or own.bytes 0 0) byte ≡ q → cond (p && q) (Some own) None ≡ Some key → (names.Entry other own ≡ names.Entry root key) × (get_or key.bytes 0 0 ≡ byte)
+    chosen : (p q : Bool) → nat_eq place.root root ≡ p → nat_eq (get_or place.key.bytes 0 0) byte ≡ q → cond (p && q) (Some place.key) None ≡ Some key → (place ≡ place_of root key) × (get_or key.bytes 0 0 ≡ byte)
     chosen true true a b e =
-        let same : own ≡ key = cc in
-        (ap (λ (n : ℕ). names.Entry n own) (eqb-true other root a) ∙ ap (λ (k : Key). names.Entry root k) same, ap (λ (k : Key). get_or k.bytes 0 0) (sym same) ∙ eqb-true (get_or own.bytes 0 0) byte b)
+        let same : place.key ≡ key = cc in
+        (ap (λ (n : ℕ). place_of n place.key) (eqb-true place.root root a) ∙ ap (λ (k : Key). place_of root k) same, ap (λ (k : Key). get_or k.bytes 0 0) (sym same) ∙ eqb-true (get_or place.key.bytes 0 0) byte b)
     chosen true false a b e = absurd cc
     chosen false q a b e = absurd cc
-is_entry root byte name key e = absurd cc
 
-entry_is : (root byte : ℕ) (key : Key) → get_or key.bytes 0 0 ≡ byte → key_in root byte (names.Entry root key) ≡ Some key
+entry_is : (root byte : ℕ) (key : Key) → get_or key.bytes 0 0 ≡ byte → key_in root byte (place_of root key) ≡ Some key
 entry_is root byte key e = rw (eq-eqb root root refl, eq-eqb (get_or key.bytes 0 0) byte e) refl
 
 here_or_later : (q : Bool) (file : ℕ) (o : Option ℕ) → IsSome o → IsSome (cond q (Some file) o)
@@ -98,31 +110,33 @@ found_here : (q : Bool) (file : ℕ) (o : Option ℕ) → q ≡ true → IsSome 
 found_here true file o e = refl
 found_here false file o e = absurd cc
 
-is_there_by : (root byte : ℕ) (x : NamedFile) (files : List NamedFile) (key : Key) (o : Option Key) → key_in root byte x.name ≡ o
-    → (Contains (keys_in root byte files) key → IsThere root byte files key)
-    → Contains (cons_option o (keys_in root byte files)) key → IsThere root byte (x ∷ files) key
-is_there_by root byte x files key None e more h =
-    let r = more h in (here_or_later (same_name x.name (names.Entry root key)) x.file (number_of files (names.Entry root key)) r.0, r.1)
-is_there_by root byte x files key (Some own) e more h =
-    elim (first_or_later own key (keys_in root byte files) h) [
-      | inl same ↦ let r = is_entry root byte x.name key (e ∙ ap Some same) in (found_here (same_name x.name (names.Entry root key)) x.file (number_of files (names.Entry root key)) ((same_name_decides x.name (names.Entry root key)).1 r.0), r.1)
-      | inr there ↦ let r = more there in (here_or_later (same_name x.name (names.Entry root key)) x.file (number_of files (names.Entry root key)) r.0, r.1)
+is_there_by : (root byte : ℕ) (place : KeyPlace) (file : ℕ) (entries : List (KeyPlace × ℕ)) (key : Key) (o : Option Key) → key_in root byte place ≡ o
+    → (Contains (keys_in root byte (keys_of entries)) key → IsThere root byte entries key)
+    → Contains (cons_option o (keys_in root byte (keys_of entries))) key → IsThere root byte ((place, file) ∷ entries) key
+is_there_by root byte place file entries key None e more h =
+    let r = more h in (here_or_later (same_place (place_of root key) place) file (lookup (same_place (place_of root key)) entries) r.0, r.1)
+is_there_by root byte place file entries key (Some own) e more h =
+    elim (first_or_later own key (keys_in root byte (keys_of entries)) h) [
+      | inl same ↦
+          let r = is_entry root byte place key (e ∙ ap Some same) in
+          (found_here (same_place (place_of root key) place) file (lookup (same_place (place_of root key)) entries) (ap (same_place (place_of root key)) r.0 ∙ same_place-self (place_of root key)), r.1)
+      | inr there ↦ let r = more there in (here_or_later (same_place (place_of root key) place) file (lookup (same_place (place_of root key)) entries) r.0, r.1)
     ]
 
-pub is_there : (root byte : ℕ) (files : List NamedFile) (key : Key) → Contains (keys_in root byte files) key → IsThere root byte files key
+pub is_there : (root byte : ℕ) (entries : List (KeyPlace × ℕ)) (key : Key) → Contains (keys_in root byte (keys_of entries)) key → IsThere root byte entries key
 is_there root byte [] key h = absurd (omega (arith, h.1))
-is_there root byte (x ∷ files) key h = is_there_by root byte x files key (key_in root byte x.name) refl (is_there root byte files key) h
+is_there root byte (x ∷ entries) key h = is_there_by root byte x.0 x.1 entries key (key_in root byte x.0) refl (is_there root byte entries key) h
 
-is_listed_by : (root byte : ℕ) (x : NamedFile) (files : List NamedFile) (key : Key) (q : Bool) → same_name x.name (names.Entry root key) ≡ q → get_or key.bytes 0 0 ≡ byte
-    → (IsSome (number_of files (names.Entry root key)) → Contains (keys_in root byte files) key)
-    → IsSome (cond q (Some x.file) (number_of files (names.Entry root key))) → Contains (cons_option (key_in root byte x.name) (keys_in root byte files)) key
-is_listed_by root byte x files key true e b more h =
-    let same : x.name ≡ names.Entry root key = (same_name_decides x.name (names.Entry root key)).0 e in
-    let is : key_in root byte x.name ≡ Some key = ap (key_in root byte) same ∙ entry_is root byte key b in
-    let first : Contains (key ∷ keys_in root byte files) key = (0, omega arith, refl) in
-    subst (λ (o : Option Key). Contains (cons_option o (keys_in root byte files)) key) (sym is) first
-is_listed_by root byte x files key false e b more h = later (key_in root byte x.name) key (keys_in root byte files) (more h)
+is_listed_by : (root byte : ℕ) (place : KeyPlace) (file : ℕ) (entries : List (KeyPlace × ℕ)) (key : Key) (q : Bool) → same_place (place_of root key) place ≡ q → get_or key.bytes 0 0 ≡ byte
+    → (IsSome (lookup (same_place (place_of root key)) entries) → Contains (keys_in root byte (keys_of entries)) key)
+    → IsSome (cond q (Some file) (lookup (same_place (place_of root key)) entries)) → Contains (cons_option (key_in root byte place) (keys_in root byte (keys_of entries))) key
+is_listed_by root byte place file entries key true e b more h =
+    let same : place ≡ place_of root key = sym (same_place-true (place_of root key) place e) in
+    let is : key_in root byte place ≡ Some key = ap (key_in root byte) same ∙ entry_is root byte key b in
+    let first : Contains (key ∷ keys_in root byte (keys_of entries)) key = (0, omega arith, refl) in
+    subst (λ (o : Option Key). Contains (cons_option o (keys_in root byte (keys_of entries))) key) (sym is) first
+is_listed_by root byte place file entries key false e b more h = later (key_in root byte place) key (keys_in root byte (keys_of entries)) (more h)
 
-pub is_listed : (root byte : ℕ) (files : List NamedFile) (key : Key) → IsThere root byte files key → Contains (keys_in root byte files) key
+pub is_listed : (root byte : ℕ) (entries : List (KeyPlace × ℕ)) (key : Key) → IsThere root byte entries key → Contains (keys_in root byte (keys_of entries)) key
 is_listed root byte [] key h = let none : false ≡ true = h.0 in absurd cc
-is_listed root byte (x ∷ files) key h = is_listed_by root byte x files key (same_name x.name (names.Entry root key)) refl h.1 (λ some. is_listed root byte files key (some, h.1)) h.0
+is_listed root byte (x ∷ entries) key h = is_listed_by root byte x.0 x.1 entries key (same_place (place_of root key) x.0) refl h.1 (λ some. is_listed root byte entries key (some, h.1)) h.0

@@ -1,9 +1,14 @@
 -- What stands beside a name or a slot in a list.
 use Rattle.std.specs.Prelude.{ℕ, ◌+◌, nat_eq, Bool, ◌&&◌, List, [], ◌∷◌, Option, Some, None, if◌then◌else◌}
+use Rattle.std.specs.Cmp.Lexicographic.{pointwise}
+use Rattle.std.specs.HashMap.{get}
 use Rattle.cache_types.specs.declared.seat.Who.{Who}
 use Rattle.cache_types.specs.declared.name.Name.{Name}
 use Rattle.cache_types.specs.Names.{same_name}
 use Rattle.cache_types.specs.Seats.{same_seat}
+use Rattle.cache_types.specs.declared.name.Name.TheVariants as names
+use Rattle.world_tables.specs.declared.names.KeyPlace.{KeyPlace}
+use Rattle.world_tables.specs.declared.names.Names.{Names}
 use Rattle.world_tables.specs.declared.parts.NamedFile.{NamedFile}
 use Rattle.world_tables.specs.declared.parts.OpenSlot.{OpenSlot}
 
@@ -15,6 +20,16 @@ find_by test value (x ∷ xs) = if test x then Some (value x) else find_by test 
 -- the number of the file that a name has
 abbrev pub number_of : List NamedFile → Name → Option ℕ
 number_of names n = find_by (λ x. same_name x.name n) (λ x. x.file) names
+
+-- key's files are one where their roots and keys are
+abbrev pub same_place : KeyPlace → KeyPlace → Bool
+same_place a b = nat_eq a.root b.root && pointwise nat_eq a.key.bytes b.key.bytes
+
+-- the number of the file that a name has: entries and temporary files stand by their keys
+unfoldable pub number_in : Names → Name → Option ℕ
+number_in t (names.Entry root key) = get same_place t.entries (record { root = root; key = key })
+number_in t (names.Temp root key) = get same_place t.temps (record { root = root; key = key })
+number_in t name = number_of t.others.items name
 
 -- the number of the file in a slot
 abbrev pub file_in : List OpenSlot → Who → ℕ → Option ℕ

@@ -7,4 +7,3 @@ pub mod Books
 pub mod Calls
 pub mod Room
 pub mod Tables
-pub mod Starts

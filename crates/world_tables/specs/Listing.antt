@@ -2,15 +2,12 @@
 use Rattle.std.specs.Prelude.{ℕ, nat_eq, ◌&&◌, List, get_or, Option, Some, None, if◌then◌else◌}
 use Rattle.std.specs.List.{filter_map}
 use Rattle.cache_types.specs.declared.key.Key.{Key}
-use Rattle.cache_types.specs.declared.name.Name.{Name}
-use Rattle.cache_types.specs.declared.name.Name.TheVariants as names
-use Rattle.world_tables.specs.declared.parts.NamedFile.{NamedFile}
+use Rattle.world_tables.specs.declared.names.KeyPlace.{KeyPlace}
 
--- the key of a name, where it is an entry's in the folder
-abbrev pub key_in : ℕ → ℕ → Name → Option Key
-key_in root byte (names.Entry other key) = if nat_eq other root && nat_eq (get_or key.bytes 0 0) byte then Some key else None
-key_in root byte name = None
+-- the key of an entry, where it is in the folder
+abbrev pub key_in : ℕ → ℕ → KeyPlace → Option Key
+key_in root byte place = if nat_eq place.root root && nat_eq (get_or place.key.bytes 0 0) byte then Some place.key else None
 
--- the keys of the folder's entries, in the order of their names
-abbrev pub keys_in : ℕ → ℕ → List NamedFile → List Key
-keys_in root byte files = filter_map (λ file. key_in root byte file.name) files
+-- the keys of those of these entries that are in the folder
+abbrev pub keys_in : ℕ → ℕ → List KeyPlace → List Key
+keys_in root byte places = filter_map (key_in root byte) places

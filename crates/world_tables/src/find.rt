@@ -1,5 +1,4 @@
-ghost use Rattle.std.specs.Prelude.{◌≡◌, ◌≤◌, ◌+◌, ◌&&◌, ℕ, None, IsSome, nat_eq, if◌then◌else◌};
-ghost use Rattle.std.specs.Vec.{vec_len, vec_capacity};
+ghost use Rattle.std.specs.Prelude.{◌≡◌, ◌≤◌, ◌+◌, ◌&&◌, ◌∷◌, ℕ, None, IsSome, OnOk, OnErr, nat_eq, if◌then◌else◌};
 ghost use Rattle.cache_types.specs.Names.{same_name};
 ghost use Rattle.cache_types.specs.Seats.{same_seat};
 ghost use Rattle.cache_types.specs.declared.name.Name.{Name};
@@ -8,10 +7,10 @@ ghost use Rattle.world_tables.specs.Find.{number_of as the_number, file_in as th
 ghost use Rattle.world_tables.specs.Room.{closes};
 
 use crate::parts::{NamedFile, OpenSlot};
-use cache_types::{Name, Who};
+use cache_types::{Name, NoMemory, Who};
 
-/// The number of the file that a name has.
-pub fn number_of(names: &[NamedFile], name: &Name) -> Option<usize>
+/// The number of the file that a name has in a list.
+pub fn find_name(names: &[NamedFile], name: &Name) -> Option<usize>
     ensures { result ≡ the_number names.now name.now }
 {
     let mut rest = names;
@@ -38,11 +37,34 @@ pub fn file_in(slots: &[OpenSlot], who: Who, at: u8) -> Option<usize>
     None
 }
 
-/// Removes a name.
+/// Adds a name with its file, before all others.
+pub fn add_name(names: &mut Vec<NamedFile>, named: NamedFile) -> Result<(), NoMemory>
+    ensures ok { OnOk result (names.new.items ≡ named ∷ names.old.items) }
+    ensures err { OnErr result (names.new.items ≡ names.old.items) }
+{
+    names.insert(0, named)?;
+    Ok(())
+}
+
+/// Adds two names with their files, the second before the first. It adds both or neither.
+pub fn add_both(
+    names: &mut Vec<NamedFile>,
+    first: NamedFile,
+    second: NamedFile,
+) -> Result<(), NoMemory>
+    ensures ok { OnOk result (names.new.items ≡ second ∷ first ∷ names.old.items) }
+    ensures err { OnErr result (names.new.items ≡ names.old.items) }
+{
+    names.reserve(2)?;
+    // There is a place for each, so neither can fail.
+    let _first = names.insert(0, first);
+    let _second = names.insert(0, second);
+    Ok(())
+}
+
+/// Removes a name from a list.
 pub fn forget(names: &mut Vec<NamedFile>, name: &Name)
-    ensures names { (n : Name) → the_number names.new.items n ≡ (if same_name name.now n then None else the_number names.old.items n) }
-    ensures room { vec_len names.new ≤ vec_len names.old }
-    ensures capacity { vec_capacity names.new ≡ vec_capacity names.old }
+    ensures { (n : Name) → the_number names.new.items n ≡ (if same_name name.now n then None else the_number names.old.items n) }
 {
     names.retain(|named| !named.name.is(name));
 }

@@ -2,7 +2,7 @@ ghost use Rattle.std.specs.Prelude.{◌≡◌, ◌↔◌, None, IsTrue, IsSomeAn
 ghost use Rattle.file_log.specs.Disk.{bytes_at};
 ghost use Rattle.file_log.specs.Legal.{IsFree, IsOpen, IsReply, IsDone, IsMissing, IsHeld, IsGot, IsNumber, IsListing};
 
-use crate::find::{file_in, number_of};
+use crate::find::file_in;
 use crate::listing::listing;
 use crate::replies::{bytes_in, part};
 use crate::tables::Tables;
@@ -31,7 +31,7 @@ impl Tables {
     pub fn lacks(&self, name: &Name) -> bool
         ensures { IsTrue result ↔ ((disk_at self.now).names name.now ≡ None) }
     {
-        number_of(&self.names, name).is_none()
+        self.names.number_of(name).is_none()
     }
 
     /// Whether a slot is one of eight, and filled.

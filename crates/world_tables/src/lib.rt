@@ -8,6 +8,7 @@ mod find;
 mod legal;
 mod listing;
 mod locks;
+mod names;
 mod parts;
 mod piece;
 mod replies;
@@ -15,8 +16,9 @@ mod room;
 mod tables;
 
 pub use book::{Book, len_of_piece};
-pub use find::{file_in, number_of};
+pub use find::file_in;
 pub use locks::LockHolder;
+pub use names::{KeyPlace, Names};
 pub use parts::{NamedFile, OpenSlot};
 pub use piece::{Piece, Run};
 pub use replies::bytes_in;

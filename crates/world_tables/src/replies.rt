@@ -5,7 +5,7 @@ ghost use Rattle.file_log.specs.Legal.{IsReply, is_slot_held};
 ghost use Rattle.world_tables.specs.Calls.{SlotsFit, MakesOne, TellsClock};
 
 use crate::file::File;
-use crate::find::{file_in, number_of};
+use crate::find::file_in;
 use crate::listing::listing;
 use crate::tables::Tables;
 use cache_types::{Bytes, Name, NoMemory, Who};
@@ -49,7 +49,7 @@ impl Tables {
     pub fn file(&self, alloc: Global, name: &Name) -> Result<Option<Bytes>, NoMemory>
         ensures { IfOk result (λ bytes. bytes ≡ file_of (disk_at self.now) name.now) }
     {
-        match number_of(&self.names, name) {
+        match self.names.number_of(name) {
             None => Ok(None),
             Some(file) => {
                 let bytes = Bytes::of(alloc, bytes_in(&self.files, Some(file)))?;
@@ -72,7 +72,7 @@ impl Tables {
         ensures clock { IfOk result (λ reply. TellsClock call.now clock reply) }
     {
         match call {
-            Call::OpenOld { slot: _, name } => match number_of(&self.names, name) {
+            Call::OpenOld { slot: _, name } => match self.names.number_of(name) {
                 None => Ok(Reply::Missing),
                 Some(_) => Ok(Reply::Done),
             },

@@ -1,25 +1,24 @@
-ghost use Rattle.std.specs.Prelude.{◌≡◌, ◌≤◌, ◌<◌, ◌+◌, ◌∷◌, ◌++◌, [], List, OnOk, OnErr, IfOk, IsSome, length, map};
-ghost use Rattle.std.specs.Vec.{vec_len, vec_capacity};
+ghost use Rattle.std.specs.Prelude.{◌≡◌, ◌≤◌, ◌+◌, ◌∷◌, ◌++◌, [], Some, OnOk, OnErr, IfOk, IsSome, length, map, if◌then◌else◌};
 ghost use Rattle.cache_types.specs.declared.name.Name.TheVariants.{Ro, RoIdx};
 ghost use Rattle.file_log.specs.declared.call.Call.TheVariants.{OpenOld, OpenNew, TryLock, Cut, Close};
 ghost use Rattle.file_log.specs.declared.item.LogItem.TheVariants.{Byte};
 ghost use Rattle.file_log.specs.declared.reply.Reply.TheVariants.{Done};
-ghost use Rattle.file_log.specs.Disk.{opening, rewritten, renamed, stopped, created, listed};
+ghost use Rattle.file_log.specs.Disk.{opening, number_from, rewritten, renamed, stopped, created, listed};
+ghost use Rattle.cache_types.specs.Names.{same_name};
+ghost use Rattle.cache_types.specs.declared.name.Name.{Name};
 ghost use Rattle.file_log.specs.Effect.{after_call, done_call};
 ghost use Rattle.file_log.specs.Writing.{written};
-ghost use Rattle.world_tables.specs.Locks.{Holdings};
 ghost use Rattle.world_tables.specs.Pieces.{items_of_run};
-ghost use Rattle.world_tables.specs.declared.parts.OpenSlot.{OpenSlot};
 ghost use Rattle.world_tables.specs.Room.{closes, closes_by};
-ghost use Rattle.world_tables.specs.Starts.{named_from};
-ghost use Rattle.world_tables.specs.Tables.{disk_from};
+ghost use Rattle.world_tables.specs.Find.{number_in};
 ghost use Rattle.world_tables.specs.Told.{with_news};
 
 use crate::book::Book;
 use crate::file::File;
-use crate::find::{empty, empty_all, file_in, forget, number_of};
+use crate::find::{empty, empty_all, file_in};
 use crate::locks::{self, LockHolder};
-use crate::parts::{NamedFile, OpenSlot};
+use crate::names::Names;
+use crate::parts::OpenSlot;
 use crate::piece::Run;
 use cache_types::{Bytes, Name, NoMemory, Text, Who};
 use file_log::{Call, Reply};
@@ -29,7 +28,7 @@ use std::alloc::Global;
 /// The files of a disk with their names, and who has them open and locked.
 #[derive(Debug, Drop)]
 pub struct Tables {
-    pub names: Vec<NamedFile>,
+    pub names: Names,
     pub files: Vec<File>,
     pub slots: Vec<OpenSlot>,
     pub locks: Holders<LockHolder>,
@@ -38,51 +37,36 @@ pub struct Tables {
 /// Gives a name an empty file, and a slot that file. It does both or neither.
 fn add_file(
     alloc: Global,
-    names: &mut Vec<NamedFile>,
+    names: &mut Names,
     files: &mut Vec<File>,
     slots: &mut Vec<OpenSlot>,
     name: Name,
     who: Who,
     slot: u8,
 ) -> Result<(), NoMemory>
-    ensures names { OnOk result (names.new.items ≡ record { name = name; file = length files.old.items } ∷ names.old.items) }
+    ensures names { OnOk result ((n : Name) → number_in names.new n ≡ (if same_name name n then Some (length files.old.items) else number_in names.old n)) }
     ensures files { OnOk result (files.new.items ≡ files.old.items ++ [] ∷ []) }
     ensures slots { OnOk result (slots.new.items ≡ record { who = who; slot = slot; file = length files.old.items } ∷ slots.old.items) }
-    ensures err { OnErr result ((names.new.items ≡ names.old.items) × (files.new.items ≡ files.old.items) × (slots.new.items ≡ slots.old.items)) }
+    ensures err { OnErr result (((n : Name) → number_in names.new n ≡ number_in names.old n) × (files.new.items ≡ files.old.items) × (slots.new.items ≡ slots.old.items)) }
 {
     let file = files.len();
     files.reserve(1)?;
     slots.reserve(1)?;
-    names.insert(0, NamedFile { name, file })?;
+    names.put(name, file)?;
     files.push(File::new(alloc))?;
     slots.insert(0, OpenSlot { who, slot, file })?;
     Ok(())
 }
 
-/// Gives a name a file, in memory that was taken for it.
-fn place(names: &mut Vec<NamedFile>, files: &mut Vec<File>, name: Name, file: File)
-    requires room { vec_len names.old < vec_capacity names.old }
-    requires place { vec_len files.old < vec_capacity files.old }
-    ensures disk { (slots : List OpenSlot) (locks : Holdings) → disk_from names.new.items files.new.items slots locks ≡ created (disk_from names.old.items files.old.items slots locks) name file }
-    ensures one_name { vec_len names.new ≡ vec_len names.old + 1 }
-    ensures one_file { vec_len files.new ≡ vec_len files.old + 1 }
-    ensures names_room { vec_capacity names.old ≤ vec_capacity names.new }
-    ensures files_room { vec_capacity files.old ≤ vec_capacity files.new }
+/// Names with the numbers of their files, which are numbered in their order. Of two files with one name
+/// the first has it.
+fn names_of(alloc: Global, start: &[(Name, Bytes)]) -> Result<Names, NoMemory>
+    ensures { IfOk result (λ names. (n : Name) → number_in names n ≡ number_from 0 start.now n) }
 {
-    let number = files.len();
-    let _named = names.insert(0, NamedFile { name, file: number });
-    let _placed = files.push(file);
-}
-
-/// Names with the numbers of their files, which are numbered in their order.
-fn names_of(alloc: Global, start: &[(Name, Bytes)]) -> Result<Vec<NamedFile>, NoMemory>
-    ensures { IfOk result (λ names. names.items ≡ named_from 0 start.now) }
-{
-    let mut names = Vec::new(alloc);
+    let mut names = Names::new(alloc);
     let mut file = 0;
     for pair in start {
-        let name = pair.0.copy()?;
-        names.push(NamedFile { name, file })?;
+        names.put_first(&pair.0, file)?;
         file += 1;
     }
     Ok(names)
@@ -108,7 +92,7 @@ impl Tables {
         ensures closes { closes result.slots.items ≡ 0 }
     {
         Tables {
-            names: Vec::new(alloc),
+            names: Names::new(alloc),
             files: Vec::new(alloc),
             slots: Vec::new(alloc),
             locks: Holders::new(alloc),
@@ -135,7 +119,7 @@ impl Tables {
         ensures closes { closes self.new.slots.items ≤ closes self.old.slots.items + 1 }
         ensures no_more { OnErr result (closes self.new.slots.items ≤ closes self.old.slots.items) }
     {
-        match number_of(&self.names, name) {
+        match self.names.number_of(name) {
             None => empty(&mut self.slots, who, slot),
             Some(file) => self.slots.insert(0, OpenSlot { who, slot, file })?,
         }
@@ -149,7 +133,7 @@ impl Tables {
         ensures closes { closes self.new.slots.items ≤ closes self.old.slots.items + 1 }
         ensures no_more { OnErr result (closes self.new.slots.items ≤ closes self.old.slots.items) }
     {
-        match number_of(&self.names, name) {
+        match self.names.number_of(name) {
             Some(file) => {
                 self.slots.insert(0, OpenSlot { who, slot, file })?;
                 Ok(())
@@ -201,14 +185,13 @@ impl Tables {
         ensures err { OnErr result (disk_at self.new ≡ disk_at self.old) }
         ensures slots { self.new.slots ≡ self.old.slots }
     {
-        let Some(file) = number_of(&self.names, from) else {
+        let Some(file) = self.names.number_of(from) else {
             return Ok(());
         };
-        let name = to.copy()?;
-        self.names.reserve(1)?;
-        forget(&mut self.names, to);
-        forget(&mut self.names, from);
-        self.names.insert(0, NamedFile { name, file })?;
+        self.names.put(to.copy()?, file)?;
+        if !from.is(to) {
+            self.names.forget(from);
+        }
         Ok(())
     }
 
@@ -244,20 +227,12 @@ impl Tables {
         ensures err { OnErr result (disk_at self.new ≡ disk_at self.old) }
         ensures slots { self.new.slots ≡ self.old.slots }
     {
-        let main_name = Name::Ro {
-            root,
-            name: name.copy()?,
-        };
-        let index_name = Name::RoIdx {
-            root,
-            name: name.copy()?,
-        };
         let main = File::of(alloc, main.as_slice())?;
         let index = File::of(alloc, index.as_slice())?;
-        self.names.reserve(2)?;
         self.files.reserve(2)?;
-        place(&mut self.names, &mut self.files, main_name, main);
-        place(&mut self.names, &mut self.files, index_name, index);
+        self.names.install(root, name, self.files.len())?;
+        let _main = self.files.push(main);
+        let _index = self.files.push(index);
         Ok(())
     }
 
@@ -268,13 +243,13 @@ impl Tables {
         ensures slots { self.new.slots ≡ self.old.slots }
     {
         let Some(text) = text else {
-            forget(&mut self.names, &Name::List);
+            self.names.forget(&Name::List);
             return Ok(());
         };
         let list = File::of(alloc, text.as_slice())?;
-        self.names.reserve(1)?;
         self.files.reserve(1)?;
-        place(&mut self.names, &mut self.files, Name::List, list);
+        self.names.put(Name::List, self.files.len())?;
+        let _list = self.files.push(list);
         Ok(())
     }
 
@@ -291,7 +266,7 @@ impl Tables {
             Call::TryLock { slot } => self.lock(who, *slot)?,
             Call::Cut { slot, n } => self.cut(who, *slot, *n),
             Call::Rename { from, to } => self.rename(from, to)?,
-            Call::Remove { name } => forget(&mut self.names, name),
+            Call::Remove { name } => self.names.forget(name),
             Call::Close { slot } => self.close(who, *slot),
             _ => {}
         }

@@ -1,11 +1,5 @@
-use Rattle.std.proofs.Common.{◌≡◌, ◌∙◌, ◌↔◌, List, get_or, sym, subst}
-use Rattle.std.specs.Prelude.{IsSome}
-use Rattle.std.specs.List.{Contains}
-use Rattle.cache_types.specs.declared.key.Key.{Key}
-use Rattle.cache_types.specs.declared.name.Name.TheVariants.{Entry}
+use Rattle.std.proofs.Common.{◌≡◌, ◌∙◌, sym, subst}
 use Rattle.file_log.specs.Legal.{IsListing}
-use Rattle.world_tables.specs.declared.parts.NamedFile.{NamedFile}
-use Rattle.world_tables.specs.Find.{number_of}
 use Rattle.world_tables.specs.Tables.{disk_at}
 use Rattle.world_tables.proofs.OneListing.{one_listing}
 use Rattle.world_tables.proofs.tables.Tables.lists.Goals as goal
@@ -16,8 +10,7 @@ returns c =
     let keys = c.args.keys.now in
     let root = c.args.root in
     let byte = c.args.byte in
-    let Exact : List NamedFile → Type 0 = λ names. (key : Key) → Contains all key ↔ (IsSome (number_of names (Entry root key)) × (get_or key.bytes 0 0 ≡ byte)) in
-    let whole : IsListing (disk_at c.args.self.now) root byte all = record { ascending = c.in_ok-all.ensures.ascending; exact = subst Exact c.deref.ensures.value c.in_ok-all.ensures.exact } in (
+    let whole : IsListing (disk_at c.args.self.now) root byte all = record { ascending = c.in_ok-all.ensures.ascending; exact = c.in_ok-all.ensures.exact } in (
       λ same.
           let one : all ≡ keys = sym c.as_slice.ensures ∙ c.same_keys.ensures.0 same ∙ c.as_slice-2.ensures in
           subst (IsListing (disk_at c.args.self.now) root byte) one whole,
