@@ -1,6 +1,7 @@
 -- A seat that has no items has no slot filled and no operation open.
-use Rattle.std.proofs.Common.{◌≡◌, ℕ, cond, nat_eq, ◌&&◌, Bool, true, false, List, [], ◌∷◌, fold, take, Option, Some, None, refl, sym, ap, ◌∙◌}
-use Rattle.std.specs.Prelude.{is_some}
+use Rattle.std.proofs.Common.{◌≡◌, ℕ, cond, nat_eq, ◌&&◌, ◌||◌, Bool, true, false, List, [], ◌∷◌, fold, take, Option, Some, None, refl, sym, ap, ◌∙◌}
+use Rattle.std.specs.Prelude.{◌≢◌, is_some}
+use Rattle.std.proofs.lemmas.Bool.{eqb-true}
 use Rattle.cache_types.specs.declared.seat.Who.{Who}
 use Rattle.cache_types.specs.Seats.{same_seat}
 use Rattle.file_log.specs.declared.call.Call.{Call}
@@ -16,6 +17,7 @@ use Rattle.file_log.specs.Seat.{Course, course_by, course_after, course_of}
 use Rattle.file_log.specs.State.{State, first, after, state_of, disk_of}
 use Rattle.file_log.specs.Writing.{written}
 use Rattle.file_model.specs.Held.{Held, first_of}
+use Rattle.memory_files.specs.Seats.{GoesOn}
 use Rattle.memory_files.specs.Stopped.{stopped_at}
 use Rattle.memory_files.proofs.Calls.{write_slots, lock_slots, rename_slots, made_slots}
 use Rattle.memory_files.proofs.Telling.{state_then, course_then}
@@ -80,6 +82,23 @@ empty_then me at n process held none =
     let h = (first_of n held).past in
     ap (λ (s : State). is_some (s.disk.slots me at)) (state_then h (items.Stop process ∷ []))
     ∙ ap is_some (emptied (nat_eq me.process process) ((state_of h).disk.slots me at) (empty_after me at (first held.past.start) (take n held.past.log) none refl))
+
+going : (q old : Bool) → q ≡ false → old ≡ false → (q || old) ≡ false
+going true old e h = absurd cc
+going false old e h = h
+
+another : (a b : ℕ) → a ≢ b → nat_eq a b ≡ false
+another a b other = apart (nat_eq a b) refl
+  where
+    apart : (q : Bool) → nat_eq a b ≡ q → q ≡ false
+    apart false e = refl
+    apart true e = absurd (other (eqb-true a b e))
+
+-- its process goes on, if it went on before and is another
+pub goes_on_after_stop : (me : Who) (n process : ℕ) (held : Held) → me.process ≢ process → GoesOn me (first_of n held).past → GoesOn me (stopped_at n process held).past
+goes_on_after_stop me n process held other goes_on =
+    let h = (first_of n held).past in
+    ap (λ (s : State). s.halted me.process) (state_then h (items.Stop process ∷ [])) ∙ going (nat_eq process me.process) ((state_of h).halted me.process) (another process me.process (λ e. other (sym e))) goes_on
 
 pub outside_then : (me : Who) (n process : ℕ) (held : Held) → own me (take n held.past.log) ≡ [] → (course_of me (stopped_at n process held).past.log).inside ≡ false
 outside_then me n process held none =

@@ -1,9 +1,11 @@
 ghost use Rattle.std.specs.Prelude.{◌≡◌, ◌↔◌, Some, [], IfOk, IsTrue};
+ghost use Rattle.memory_files.specs.Seats.{GoesOn};
 ghost use Rattle.file_log.specs.Log.{own, is_own as the_own, seat_of as the_seat};
 
 use crate::files::MemFiles;
 use cache_types::{NoMemory, Who};
 use file_log::LogItem;
+use file_model::World;
 use files_api::Files;
 
 impl MemFiles {
@@ -39,9 +41,19 @@ impl MemFiles {
             return Ok(false);
         }
         let first = self.world().first_items(n)?;
-        let log = first.log()?;
-        Ok(!first.is_halted(next.process) && has_none(&log, next))
+        may_begin(&first, next)
     }
+}
+
+/// Whether a seat of a process that goes on has no item in the log of a world.
+fn may_begin(world: &World, who: Who) -> Result<bool, NoMemory>
+    ensures { IfOk result (λ may. IsTrue may ↔ ((own who world.now.past.log ≡ []) × GoesOn who world.now.past)) }
+{
+    if world.is_halted(who.process) {
+        return Ok(false);
+    }
+    let log = world.log()?;
+    Ok(has_none(&log, who))
 }
 
 /// Whether a seat has none of these items.
