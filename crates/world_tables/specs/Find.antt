@@ -7,6 +7,7 @@ use Rattle.cache_types.specs.declared.name.Name.{Name}
 use Rattle.cache_types.specs.Names.{same_name}
 use Rattle.cache_types.specs.Seats.{same_seat}
 use Rattle.cache_types.specs.declared.name.Name.TheVariants as names
+use Rattle.world_tables.specs.declared.names.FolderPlace.{FolderPlace}
 use Rattle.world_tables.specs.declared.names.KeyPlace.{KeyPlace}
 use Rattle.world_tables.specs.declared.names.Names.{Names}
 use Rattle.world_tables.specs.declared.parts.NamedFile.{NamedFile}
@@ -25,10 +26,15 @@ number_of names n = find_by (λ x. same_name x.name n) (λ x. x.file) names
 abbrev pub same_place : KeyPlace → KeyPlace → Bool
 same_place a b = nat_eq a.root b.root && pointwise nat_eq a.key.bytes b.key.bytes
 
--- the number of the file that a name has: entries and temporary files stand by their keys
+-- folders' lock files are one where their roots and digits are
+abbrev pub same_folder : FolderPlace → FolderPlace → Bool
+same_folder a b = nat_eq a.root b.root && nat_eq a.byte b.byte
+
+-- the number of the file that a name has: entries and temporary files stand by their keys, lock files by their folders
 unfoldable pub number_in : Names → Name → Option ℕ
 number_in t (names.Entry root key) = get same_place t.entries (record { root = root; key = key })
 number_in t (names.Temp root key) = get same_place t.temps (record { root = root; key = key })
+number_in t (names.FolderLock root byte) = get same_folder t.locks (record { root = root; byte = byte })
 number_in t name = number_of t.others.items name
 
 -- the number of the file in a slot

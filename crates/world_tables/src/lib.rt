@@ -18,7 +18,7 @@ mod tables;
 pub use book::{Book, len_of_piece};
 pub use find::file_in;
 pub use locks::LockHolder;
-pub use names::{KeyPlace, Names};
+pub use names::{FolderPlace, KeyPlace, Names};
 pub use parts::{NamedFile, OpenSlot};
 pub use piece::{Piece, Run};
 pub use replies::bytes_in;

@@ -6,20 +6,27 @@ ghost use Rattle.std.specs.Option.{option_or};
 ghost use Rattle.cache_types.specs.Names.{same_name};
 ghost use Rattle.cache_types.specs.declared.name.Name.{Name};
 ghost use Rattle.cache_types.specs.declared.name.Name.TheVariants.{Ro, RoIdx};
-ghost use Rattle.world_tables.specs.Find.{number_in, same_place};
-ghost use Rattle.world_tables.specs.declared.names.KeyPlace.{KeyPlace};
+ghost use Rattle.world_tables.specs.Find.{number_in};
 
 use crate::find::{add_both, add_name, find_name, forget};
 use crate::parts::NamedFile;
 use cache_types::{Key, Name, NoMemory, Text};
 use std::alloc::Global;
 use std::collections::HashMap;
+use std::hash::Hash;
 
 /// What a key's file is looked up by: its root and its key.
 #[derive(Clone, Copy, Debug, PartialEq, Eq, Hash)]
 pub struct KeyPlace {
     pub root: u32,
     pub key: Key,
+}
+
+/// What a folder's lock file is looked up by: its root and its two digits.
+#[derive(Clone, Copy, Debug, PartialEq, Eq, Hash)]
+pub struct FolderPlace {
+    pub root: u32,
+    pub byte: u8,
 }
 
 /// The number of the file that each name has.
@@ -29,35 +36,37 @@ pub struct Names {
     pub entries: HashMap<KeyPlace, usize>,
     /// Those of entries that are being written.
     pub temps: HashMap<KeyPlace, usize>,
+    /// Those of the folders' lock files, up to 256 in each root.
+    pub locks: HashMap<FolderPlace, usize>,
     /// All others, which are few.
     pub others: Vec<NamedFile>,
 }
 
-/// A key's file gets this number. A refusal changes no number.
-fn put_at(
-    numbers: &mut HashMap<KeyPlace, usize>,
-    place: KeyPlace,
+/// What stands at a place gets this number. A refusal changes no number.
+fn put_at<P: Eq + Hash + Drop>(
+    numbers: &mut HashMap<P, usize>,
+    place: P,
     file: usize,
 ) -> Result<(), NoMemory>
-    ensures ok { OnOk result ((p : KeyPlace) → get same_place numbers.new p ≡ (if same_place place p then Some file else get same_place numbers.old p)) }
-    ensures err { OnErr result ((p : KeyPlace) → get same_place numbers.new p ≡ get same_place numbers.old p) }
+    ensures ok { OnOk result ((p : P) → get P.eq numbers.new p ≡ (if P.eq place p then Some file else get P.eq numbers.old p)) }
+    ensures err { OnErr result ((p : P) → get P.eq numbers.new p ≡ get P.eq numbers.old p) }
 {
     numbers.insert(place, file)?;
     Ok(())
 }
 
-/// A key's file gets no number.
-fn forget_at(numbers: &mut HashMap<KeyPlace, usize>, place: KeyPlace)
-    ensures { (p : KeyPlace) → get same_place numbers.new p ≡ (if same_place place p then None else get same_place numbers.old p) }
+/// What stands at a place gets no number.
+fn forget_at<P: Eq + Hash + Drop>(numbers: &mut HashMap<P, usize>, place: &P)
+    ensures { (p : P) → get P.eq numbers.new p ≡ (if P.eq place.now p then None else get P.eq numbers.old p) }
 {
-    numbers.remove(&place);
+    numbers.remove(place);
 }
 
-/// The number of a key's file.
-fn number_at(numbers: &HashMap<KeyPlace, usize>, place: KeyPlace) -> Option<usize>
-    ensures { result ≡ get same_place numbers.now place }
+/// The number at a place.
+fn number_at<P: Eq + Hash + Drop>(numbers: &HashMap<P, usize>, place: &P) -> Option<usize>
+    ensures { result ≡ get P.eq numbers.now place.now }
 {
-    numbers.get(&place).copied()
+    numbers.get(place).copied()
 }
 
 impl Names {
@@ -69,6 +78,7 @@ impl Names {
         Names {
             entries: HashMap::new(alloc),
             temps: HashMap::new(alloc),
+            locks: HashMap::new(alloc),
             others: Vec::new(alloc),
         }
     }
@@ -79,8 +89,27 @@ impl Names {
         ensures { result ≡ number_in self.now name.now }
     {
         match name {
-            Name::Entry { root, key } => number_at(&self.entries, place(*root, *key)),
-            Name::Temp { root, key } => number_at(&self.temps, place(*root, *key)),
+            Name::Entry { root, key } => number_at(
+                &self.entries,
+                &KeyPlace {
+                    root: *root,
+                    key: *key,
+                },
+            ),
+            Name::Temp { root, key } => number_at(
+                &self.temps,
+                &KeyPlace {
+                    root: *root,
+                    key: *key,
+                },
+            ),
+            Name::FolderLock { root, byte } => number_at(
+                &self.locks,
+                &FolderPlace {
+                    root: *root,
+                    byte: *byte,
+                },
+            ),
             _ => find_name(&self.others, name),
         }
     }
@@ -91,8 +120,11 @@ impl Names {
         ensures err { OnErr result ((n : Name) → number_in self.new n ≡ number_in self.old n) }
     {
         match name {
-            Name::Entry { root, key } => put_at(&mut self.entries, place(root, key), file),
-            Name::Temp { root, key } => put_at(&mut self.temps, place(root, key), file),
+            Name::Entry { root, key } => put_at(&mut self.entries, KeyPlace { root, key }, file),
+            Name::Temp { root, key } => put_at(&mut self.temps, KeyPlace { root, key }, file),
+            Name::FolderLock { root, byte } => {
+                put_at(&mut self.locks, FolderPlace { root, byte }, file)
+            }
             name => add_name(&mut self.others, NamedFile { name, file }),
         }
     }
@@ -140,16 +172,28 @@ impl Names {
         ensures { (n : Name) → number_in self.new n ≡ (if same_name name.now n then None else number_in self.old n) }
     {
         match name {
-            Name::Entry { root, key } => forget_at(&mut self.entries, place(*root, *key)),
-            Name::Temp { root, key } => forget_at(&mut self.temps, place(*root, *key)),
+            Name::Entry { root, key } => forget_at(
+                &mut self.entries,
+                &KeyPlace {
+                    root: *root,
+                    key: *key,
+                },
+            ),
+            Name::Temp { root, key } => forget_at(
+                &mut self.temps,
+                &KeyPlace {
+                    root: *root,
+                    key: *key,
+                },
+            ),
+            Name::FolderLock { root, byte } => forget_at(
+                &mut self.locks,
+                &FolderPlace {
+                    root: *root,
+                    byte: *byte,
+                },
+            ),
             _ => forget(&mut self.others, name),
         }
     }
-}
-
-/// The place of a key's file.
-fn place(root: u32, key: Key) -> KeyPlace
-    ensures { result ≡ record { root = root; key = key } }
-{
-    KeyPlace { root, key }
 }

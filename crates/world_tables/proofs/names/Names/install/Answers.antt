@@ -21,7 +21,7 @@ returns-clause-ok c =
     let next : c.in-Some.next ≡ file + 1 = search rules in
     on_ok c.add_both.result
     (λ h. λ n.
-    both_named old new first second tt tt h refl refl n
+    both_named old new first second tt tt h refl refl refl n
     ∙ ap (λ (k : ℕ). cond (same_name (RoIdx root index) n) (Some k) (cond (same_name (Ro root main) n) (Some file) (number_in old n))) next
     ∙ ap (λ (text : List ℕ). cond (same_name (RoIdx root text) n) (Some (file + 1)) (cond (same_name (Ro root main) n) (Some file) (number_in old n))) c.in_ok-copy-2.ensures
     ∙ ap (λ (text : List ℕ). cond (same_name (RoIdx root c.args.name.now) n) (Some (file + 1)) (cond (same_name (Ro root text) n) (Some file) (number_in old n))) c.in_ok-copy.ensures)
@@ -31,4 +31,4 @@ pub returns-clause-err : goal.returns-clause-err
 returns-clause-err c =
     let old = c.args.self.now in
     let new : Names = record old { others = c.add_both.new.names } in
-    on_err c.add_both.result (λ h. all_same old new (λ p. refl) (λ p. refl) h) c.add_both.ensures.err
+    on_err c.add_both.result (λ h. all_same old new (λ p. refl) (λ p. refl) (λ p. refl) h) c.add_both.ensures.err

@@ -1,22 +1,19 @@
 use Rattle.std.proofs.Common.{◌≡◌, ◌∙◌, ◌∷◌, List, Some, ap, cond, refl, sym}
-use Rattle.std.specs.HashMap.{get}
 use Rattle.cache_types.specs.declared.name.Name.{Name}
 use Rattle.cache_types.specs.Names.{same_name}
-use Rattle.world_tables.specs.declared.names.KeyPlace.{KeyPlace}
 use Rattle.world_tables.specs.declared.names.Names.{Names}
 use Rattle.world_tables.specs.declared.parts.NamedFile.{NamedFile}
-use Rattle.world_tables.specs.Find.{number_in, number_of, same_place}
-use Rattle.world_tables.proofs.Numbers.{all_same, entry_changed, is_other, on_err, on_ok, other_changed, place_of, temp_changed}
+use Rattle.world_tables.specs.Find.{number_in, number_of}
+use Rattle.world_tables.proofs.Numbers.{all_same, entry_changed, is_other, lock_changed, on_err, on_ok, other_changed, temp_changed}
 use Rattle.world_tables.proofs.names.Names.put.Goals as goal
 
 pub returns-in-Entry-clause-ok : goal.returns-in-Entry-clause-ok
 returns-in-Entry-clause-ok c =
     let old = c.args.self.now in
     let new : Names = record old { entries = c.put_at.new.numbers } in
-    let place : c.place.result ≡ place_of c.in-Entry.root c.in-Entry.key = c.place.ensures in
     on_ok c.put_at.result
     (λ h. λ n.
-    entry_changed old new c.in-Entry.root c.in-Entry.key (Some c.args.file) (λ p. h p ∙ ap (λ (q : KeyPlace). cond (same_place q p) (Some c.args.file) (get same_place old.entries p)) place) refl refl n
+    entry_changed old new c.in-Entry.root c.in-Entry.key (Some c.args.file) h refl refl refl n
     ∙ ap (λ (m : Name). cond (same_name m n) (Some c.args.file) (number_in old n)) (sym c.in-Entry.is))
     c.put_at.ensures.ok
 
@@ -24,16 +21,15 @@ pub returns-in-Entry-clause-err : goal.returns-in-Entry-clause-err
 returns-in-Entry-clause-err c =
     let old = c.args.self.now in
     let new : Names = record old { entries = c.put_at.new.numbers } in
-    on_err c.put_at.result (λ h. all_same old new h (λ p. refl) refl) c.put_at.ensures.err
+    on_err c.put_at.result (λ h. all_same old new h (λ p. refl) (λ p. refl) refl) c.put_at.ensures.err
 
 pub returns-in-Temp-clause-ok : goal.returns-in-Temp-clause-ok
 returns-in-Temp-clause-ok c =
     let old = c.args.self.now in
     let new : Names = record old { temps = c.put_at-in-Temp.new.numbers } in
-    let place : c.place-in-Temp.result ≡ place_of c.in-Temp.root c.in-Temp.key = c.place-in-Temp.ensures in
     on_ok c.put_at-in-Temp.result
     (λ h. λ n.
-    temp_changed old new c.in-Temp.root c.in-Temp.key (Some c.args.file) (λ p. h p ∙ ap (λ (q : KeyPlace). cond (same_place q p) (Some c.args.file) (get same_place old.temps p)) place) refl refl n
+    temp_changed old new c.in-Temp.root c.in-Temp.key (Some c.args.file) h refl refl refl n
     ∙ ap (λ (m : Name). cond (same_name m n) (Some c.args.file) (number_in old n)) (sym c.in-Temp.is))
     c.put_at-in-Temp.ensures.ok
 
@@ -41,7 +37,23 @@ pub returns-in-Temp-clause-err : goal.returns-in-Temp-clause-err
 returns-in-Temp-clause-err c =
     let old = c.args.self.now in
     let new : Names = record old { temps = c.put_at-in-Temp.new.numbers } in
-    on_err c.put_at-in-Temp.result (λ h. all_same old new (λ p. refl) h refl) c.put_at-in-Temp.ensures.err
+    on_err c.put_at-in-Temp.result (λ h. all_same old new (λ p. refl) h (λ p. refl) refl) c.put_at-in-Temp.ensures.err
+
+pub returns-in-FolderLock-clause-ok : goal.returns-in-FolderLock-clause-ok
+returns-in-FolderLock-clause-ok c =
+    let old = c.args.self.now in
+    let new : Names = record old { locks = c.put_at-in-FolderLock.new.numbers } in
+    on_ok c.put_at-in-FolderLock.result
+    (λ h. λ n.
+    lock_changed old new c.in-FolderLock.root c.in-FolderLock.byte (Some c.args.file) h refl refl refl n
+    ∙ ap (λ (m : Name). cond (same_name m n) (Some c.args.file) (number_in old n)) (sym c.in-FolderLock.is))
+    c.put_at-in-FolderLock.ensures.ok
+
+pub returns-in-FolderLock-clause-err : goal.returns-in-FolderLock-clause-err
+returns-in-FolderLock-clause-err c =
+    let old = c.args.self.now in
+    let new : Names = record old { locks = c.put_at-in-FolderLock.new.numbers } in
+    on_err c.put_at-in-FolderLock.result (λ h. all_same old new (λ p. refl) (λ p. refl) h refl) c.put_at-in-FolderLock.ensures.err
 
 pub returns-in_default-clause-ok : goal.returns-in_default-clause-ok
 returns-in_default-clause-ok c =
@@ -49,12 +61,12 @@ returns-in_default-clause-ok c =
     let new : Names = record old { others = c.add_name.new.names } in
     let named : NamedFile = record { name = c.args.name; file = c.args.file } in
     on_ok c.add_name.result
-    (λ (h : c.add_name.new.names.items ≡ named ∷ old.others.items). other_changed old new c.args.name (Some c.args.file) (is_other c.args.name c.in_default.not-Entry c.in_default.not-Temp)
-    (λ n. ap (λ (xs : List NamedFile). number_of xs n) h) refl refl)
+    (λ (h : c.add_name.new.names.items ≡ named ∷ old.others.items). other_changed old new c.args.name (Some c.args.file) (is_other c.args.name c.in_default.not-Entry c.in_default.not-Temp c.in_default.not-FolderLock)
+    (λ n. ap (λ (xs : List NamedFile). number_of xs n) h) refl refl refl)
     c.add_name.ensures.ok
 
 pub returns-in_default-clause-err : goal.returns-in_default-clause-err
 returns-in_default-clause-err c =
     let old = c.args.self.now in
     let new : Names = record old { others = c.add_name.new.names } in
-    on_err c.add_name.result (λ h. all_same old new (λ p. refl) (λ p. refl) h) c.add_name.ensures.err
+    on_err c.add_name.result (λ h. all_same old new (λ p. refl) (λ p. refl) (λ p. refl) h) c.add_name.ensures.err
