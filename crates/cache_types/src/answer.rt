@@ -8,7 +8,7 @@ use crate::row_list::RowList;
 use std::alloc::Global;
 
 /// What an operation ends with.
-#[derive(Debug, Drop)]
+#[derive(Debug)]
 pub enum Answer {
     /// The blob that was looked up.
     Hit(Bytes),
@@ -40,6 +40,28 @@ pub enum Answer {
     FilesFault,
     /// Memory ran out.
     NoMemory,
+}
+
+impl Drop for Answer {
+    fn drop(self) {
+        match self {
+            Answer::Hit(_hit) => {}
+            Answer::Miss => {}
+            Answer::Stored => {}
+            Answer::Kept => {}
+            Answer::Yes => {}
+            Answer::No => {}
+            Answer::Marked => {}
+            Answer::Keys(_keys) => {}
+            Answer::Rows(_rows) => {}
+            Answer::Trimmed(_) => {}
+            Answer::TooLarge(_) => {}
+            Answer::Foreign => {}
+            Answer::Busy => {}
+            Answer::FilesFault => {}
+            Answer::NoMemory => {}
+        }
+    }
 }
 
 impl Answer {

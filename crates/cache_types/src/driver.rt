@@ -19,12 +19,23 @@ pub enum DriverError {
 
 /// A driver, which contracts see as its id, its GPU's name and its flags. It keeps the bytes that stand
 /// at the front of each of its items.
-#[derive(Debug, Drop)]
+#[derive(Debug)]
 pub struct Driver {
     bytes: Bytes,
     id_end: u64,
     gpu_end: u64,
     flags: u64,
+}
+
+impl Drop for Driver {
+    fn drop(self) {
+        let Driver {
+            bytes: _bytes,
+            id_end: _,
+            gpu_end: _,
+            flags: _,
+        } = self;
+    }
 }
 
 impl Model for Driver {

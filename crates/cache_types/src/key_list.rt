@@ -6,9 +6,15 @@ use std::alloc::Global;
 use std::marker::Model;
 
 /// Keys on the heap, which contracts see as their list.
-#[derive(Debug, Drop)]
+#[derive(Debug)]
 pub struct KeyList {
     items: Vec<Key>,
+}
+
+impl Drop for KeyList {
+    fn drop(self) {
+        let KeyList { items: _items } = self;
+    }
 }
 
 impl Model for KeyList {

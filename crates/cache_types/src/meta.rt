@@ -4,12 +4,21 @@ use crate::key_list::KeyList;
 use crate::memory::NoMemory;
 
 /// What an item says beside its blob.
-#[derive(Debug, Drop)]
+#[derive(Debug)]
 pub enum Meta {
     /// Nothing.
     Unknown,
     /// The keys of the GLSL sources that were linked, at most [`MAX_KEYS`](crate::MAX_KEYS).
     Glsl(KeyList),
+}
+
+impl Drop for Meta {
+    fn drop(self) {
+        match self {
+            Meta::Unknown => {}
+            Meta::Glsl(_glsl) => {}
+        }
+    }
 }
 
 impl Meta {

@@ -6,7 +6,7 @@ use crate::memory::NoMemory;
 use crate::text::Text;
 
 /// The name of a file of the cache, in a root by its number.
-#[derive(Debug, PartialEq, Eq, Drop)]
+#[derive(Debug, PartialEq, Eq)]
 pub enum Name {
     /// The lock file of the folder whose two digits are this byte.
     FolderLock { root: u32, byte: u8 },
@@ -30,6 +30,30 @@ pub enum Name {
     RoIdx { root: u32, name: Text },
     /// The list of read-only databases.
     List,
+}
+
+impl Drop for Name {
+    fn drop(self) {
+        match self {
+            Name::FolderLock { root: _, byte: _ } => {}
+            Name::Entry { root: _, key: _ } => {}
+            Name::Temp { root: _, key: _ } => {}
+            Name::KeyIndex { root: _ } => {}
+            Name::Db { root: _ } => {}
+            Name::Idx { root: _ } => {}
+            Name::Foz { root: _ } => {}
+            Name::FozIdx { root: _ } => {}
+            Name::Ro {
+                root: _,
+                name: _name,
+            } => {}
+            Name::RoIdx {
+                root: _,
+                name: _name,
+            } => {}
+            Name::List => {}
+        }
+    }
 }
 
 impl Name {

@@ -10,12 +10,21 @@ use crate::text_list::TextList;
 use std::alloc::Global;
 
 /// Which read-only databases a lookup asks before its store.
-#[derive(Debug, Drop)]
+#[derive(Debug)]
 pub struct RoPlan {
     /// The names that the variable gives.
     pub names: TextList,
     /// Whether the list file names more.
     pub list: bool,
+}
+
+impl Drop for RoPlan {
+    fn drop(self) {
+        let RoPlan {
+            names: _names,
+            list: _,
+        } = self;
+    }
 }
 
 impl RoPlan {
@@ -31,7 +40,7 @@ impl RoPlan {
 }
 
 /// What a seat is asked to do, in one operation.
-#[derive(Debug, Drop)]
+#[derive(Debug)]
 pub enum Request {
     /// Look up a key for a driver.
     Get {
@@ -73,6 +82,35 @@ pub enum Request {
         store: Store,
         to: u64,
     },
+}
+
+impl Drop for Request {
+    fn drop(self) {
+        match self {
+            Request::Get {
+                store: _,
+                driver: _driver,
+                key: _,
+                ro: _ro,
+            } => {}
+            Request::Put {
+                store: _,
+                driver: _driver,
+                key: _,
+                meta: _meta,
+                blob: _blob,
+                limit: _,
+            } => {}
+            Request::HasKey { root: _, key: _ } => {}
+            Request::PutKey { root: _, key: _ } => {}
+            Request::Keys {
+                store: _,
+                driver: _driver,
+            } => {}
+            Request::Verify { store: _ } => {}
+            Request::Trim { store: _, to: _ } => {}
+        }
+    }
 }
 
 impl Request {

@@ -6,9 +6,15 @@ use std::alloc::Global;
 use std::marker::Model;
 
 /// Lines of what `verify` found, which contracts see as their list.
-#[derive(Debug, Drop)]
+#[derive(Debug)]
 pub struct RowList {
     items: Vec<Row>,
+}
+
+impl Drop for RowList {
+    fn drop(self) {
+        let RowList { items: _items } = self;
+    }
 }
 
 impl Model for RowList {

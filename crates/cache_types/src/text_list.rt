@@ -7,9 +7,15 @@ use std::marker::Model;
 
 /// Texts on the heap, which contracts see as the list of their bytes: names of read-only databases,
 /// roots, words.
-#[derive(Debug, Drop)]
+#[derive(Debug)]
 pub struct TextList {
     items: Vec<Text>,
+}
+
+impl Drop for TextList {
+    fn drop(self) {
+        let TextList { items: _items } = self;
+    }
 }
 
 impl Model for TextList {
