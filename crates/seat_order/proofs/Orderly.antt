@@ -37,10 +37,11 @@ use Rattle.folder_rules.proofs.Histories.{last_of}
 use Rattle.folder_changes.specs.Order.{InOrder}
 use Rattle.folder_changes.proofs.Ordering.{stays_in_order}
 use Rattle.folder_store.proofs.Keeping.{CanFollow, follow}
-use Rattle.op_machine.specs.Places.{Where}
 use Rattle.op_machine.specs.declared.op.Op.{Op}
-use Rattle.op_machine.specs.Places.{Leads}
-use Rattle.op_machine.proofs.Standing.{Stands, out_at_first, begins, steps, ends, takes, stays, is_inside}
+use Rattle.seat_order.specs.Places.{Where}
+use Rattle.seat_order.specs.Places.{Leads}
+use Rattle.seat_order.specs.Standing.{Stands}
+use Rattle.seat_order.proofs.Standing.{out_at_first, begins, steps, ends, takes, stays, is_inside}
 
 -- an item of no seat keeps the rules
 pub unseated_keeps : (h : History) (x : LogItem) → seat_of x ≡ None → KeepsRules h x

@@ -37,6 +37,7 @@ use Rattle.folder_rules.proofs.Histories.{disk_then}
 use Rattle.folder_store.proofs.Keeping.{course_then}
 use Rattle.op_machine.specs.declared.op.Op.{Op}
 use Rattle.op_machine.specs.Machine.{asks, asked, Fed, slots, hurt, left, allowed, goes_on}
+use Rattle.seat_order.specs.Slots.{HasSlots, HasNone, HasThose}
 
 -- ---- changes that fill and empty no slot
 
@@ -83,43 +84,34 @@ calm h m (calls.Tell note) cover c = tt
 calm h m call cover c = calm_too h m cover c
 
 module _ (me : Who) where
-  -- the seat is in an operation, these slots of it are filled, and a call of it failed only where this says so
-  pub record HasSlots (filled_in : ℕ → Bool) (failed : Bool) (h : History) : Type 0 where
-    pub filled : (at : ℕ) → filled_of (disk_of h) me at ≡ filled_in at
-    pub inside : (course_of me h.log).inside ≡ true
-    pub covers : (course_of me h.log).hurt ≡ true → failed ≡ true
-
-  abbrev pub HasNone : History → Type 0
-  HasNone h = (at : ℕ) → filled_of (disk_of h) me at ≡ false
-
-  pub may_ask : (f : ℕ → Bool) (b : Bool) (call : Call) (h : History) → HasSlots f b h → MayCall (seen_in f b) call → MayCall (seen_of me h) call
+  pub may_ask : (f : ℕ → Bool) (b : Bool) (call : Call) (h : History) → HasSlots me f b h → MayCall (seen_in f b) call → MayCall (seen_of me h) call
   may_ask f b call h s may = (slots_fit (filled_of (disk_of h) me) f call s.filled may.0, calm (course_of me h.log).hurt b call s.covers may.1)
 
   -- ---- one item
 
   -- one that leaves the operation as it was
-  kept : (f g : ℕ → Bool) (b : Bool) (h : History) (x : LogItem) → HasSlots f b h → course_after me (course_of me h.log) x ≡ course_of me h.log → ((at : ℕ) → filled_of (applied (disk_of h) x) me at ≡ g at) → HasSlots g b (with_item h x)
+  kept : (f g : ℕ → Bool) (b : Bool) (h : History) (x : LogItem) → HasSlots me f b h → course_after me (course_of me h.log) x ≡ course_of me h.log → ((at : ℕ) → filled_of (applied (disk_of h) x) me at ≡ g at) → HasSlots me g b (with_item h x)
   kept f g b h x s same filled = record {
     filled = λ at. ap (λ (d : Disk). filled_of d me at) (disk_then h x) ∙ filled at;
     inside = ap (λ (c : Course). c.inside) (course_then me h x ∙ same) ∙ s.inside;
     covers = λ e. s.covers (sym (ap (λ (c : Course). c.hurt) (course_then me h x ∙ same)) ∙ e);
   }
 
-  pub other_keeps : (f : ℕ → Bool) (b : Bool) (h : History) (x : LogItem) → HasSlots f b h → is_own me x ≡ false → is_stop me.process x ≡ false → HasSlots f b (with_item h x)
+  pub other_keeps : (f : ℕ → Bool) (b : Bool) (h : History) (x : LogItem) → HasSlots me f b h → is_own me x ≡ false → is_stop me.process x ≡ false → HasSlots me f b (with_item h x)
   other_keeps f b h x s other goes = kept f f b h x s (rw other refl) (λ at. ap (λ (o : Option ℕ). is_some o) (other_slots me (disk_of h) x at other goes) ∙ s.filled at)
 
-  pub none_other : (h : History) (x : LogItem) → HasNone h → is_own me x ≡ false → is_stop me.process x ≡ false → HasNone (with_item h x)
+  pub none_other : (h : History) (x : LogItem) → HasNone me h → is_own me x ≡ false → is_stop me.process x ≡ false → HasNone me (with_item h x)
   none_other h x none other goes = λ at. ap (λ (d : Disk). filled_of d me at) (disk_then h x) ∙ ap (λ (o : Option ℕ). is_some o) (other_slots me (disk_of h) x at other goes) ∙ none at
 
   -- one that leaves the disk as it was
-  pub none_still : (h : History) (x : LogItem) → HasNone h → applied (disk_of h) x ≡ disk_of h → HasNone (with_item h x)
+  pub none_still : (h : History) (x : LogItem) → HasNone me h → applied (disk_of h) x ≡ disk_of h → HasNone me (with_item h x)
   none_still h x none same = λ at. ap (λ (d : Disk). filled_of d me at) (disk_then h x ∙ same) ∙ none at
 
-  pub byte_keeps : (f : ℕ → Bool) (b : Bool) (h : History) (slot at value : ℕ) → HasSlots f b h → HasSlots f b (with_item h (items.Byte me slot at value))
+  pub byte_keeps : (f : ℕ → Bool) (b : Bool) (h : History) (slot at value : ℕ) → HasSlots me f b h → HasSlots me f b (with_item h (items.Byte me slot at value))
   byte_keeps f b h slot at value s =
       kept f f b h (items.Byte me slot at value) s (rw (seat_self me) refl) (λ place. ap (λ (slots : Who → ℕ → Option ℕ). is_some (slots me place)) (write_slots (disk_of h) ((disk_of h).slots me slot) (written at (value ∷ []))) ∙ s.filled place)
 
-  failed_keeps : (f : ℕ → Bool) (b memory : Bool) (h : History) → HasSlots f b h → HasSlots f true (with_item h (items.Failed me memory))
+  failed_keeps : (f : ℕ → Bool) (b memory : Bool) (h : History) → HasSlots me f b h → HasSlots me f true (with_item h (items.Failed me memory))
   failed_keeps f b memory h s = record {
     filled = λ at. ap (λ (d : Disk). filled_of d me at) (disk_then h (items.Failed me memory)) ∙ s.filled at;
     inside = ap (λ (c : Course). c.inside) (course_then me h (items.Failed me memory)) ∙ rw (seat_self me) s.inside;
@@ -127,7 +119,7 @@ module _ (me : Who) where
   }
 
   -- its Begin
-  pub begun_has : (request : Request) (h : History) → HasNone h → HasSlots (λ at. false) false (with_item h (items.Begin me request))
+  pub begun_has : (request : Request) (h : History) → HasNone me h → HasSlots me (λ at. false) false (with_item h (items.Begin me request))
   begun_has request h none = record {
     filled = none_still h (items.Begin me request) none refl;
     inside = ap (λ (c : Course). c.inside) (course_then me h (items.Begin me request)) ∙ rw (seat_self me) refl;
@@ -158,12 +150,12 @@ module _ (me : Who) where
 
   -- what it has then
   abbrev Had : (ℕ → Bool) → Bool → Call → Reply → History → List LogItem → Type 0
-  Had f b call reply h news = HasSlots (λ at. (seen_after (seen_in f b) call reply).filled at) (seen_after (seen_in f b) call reply).hurt (with_items h news)
+  Had f b call reply h news = HasSlots me (λ at. (seen_after (seen_in f b) call reply).filled at) (seen_after (seen_in f b) call reply).hurt (with_items h news)
 
   abbrev did : Call → Reply → LogItem
   did call reply = items.Did me call reply
 
-  did_done : (f : ℕ → Bool) (b : Bool) (call : Call) (done : ℕ) (h : History) → HasSlots f b h → IsWithin call → Legal (state_of h) (step_items (progresses.Reply replies.Done) me true call done) → Had f b call replies.Done h (step_items (progresses.Reply replies.Done) me true call done)
+  did_done : (f : ℕ → Bool) (b : Bool) (call : Call) (done : ℕ) (h : History) → HasSlots me f b h → IsWithin call → Legal (state_of h) (step_items (progresses.Reply replies.Done) me true call done) → Had f b call replies.Done h (step_items (progresses.Reply replies.Done) me true call done)
   did_done f b (calls.Tell (notes.Evict store driver key)) done h s within legal = kept f f b h (items.Evict me store driver key) s (rw (seat_self me) refl) s.filled
   did_done f b (calls.Tell (notes.Begin request)) done h s within legal = absurd within
   did_done f b (calls.Tell (notes.End answer)) done h s within legal = absurd within
@@ -172,16 +164,16 @@ module _ (me : Who) where
       call : Call
       call = calls.WriteAt slot at bytes
 
-      by_test : (c : Bool) → HasSlots f b (with_items h (cond c (items.Did me (calls.WriteAt slot at bytes) replies.Done ∷ []) (items.Byte me slot (at + done) (get_or bytes done 0) ∷ [])))
+      by_test : (c : Bool) → HasSlots me f b (with_items h (cond c (items.Did me (calls.WriteAt slot at bytes) replies.Done ∷ []) (items.Byte me slot (at + done) (get_or bytes done 0) ∷ [])))
       by_test true = kept f f b h (did (calls.WriteAt slot at bytes) replies.Done) s (rw (seat_self me) refl) s.filled
       by_test false = byte_keeps f b h slot (at + done) (get_or bytes done 0) s
   did_done f b call done h s within legal = kept f (λ at. filled_by call f at) b h (did call replies.Done) s (rw (seat_self me) refl) (did_slots (disk_of h) call f s.filled legal.0.1.0)
 
-  refused : (f : ℕ → Bool) (b : Bool) (call : Call) (done : ℕ) (h : History) → HasSlots f b h → Had f b call replies.NoMemory h (step_items (progresses.Reply replies.NoMemory) me true call done)
-  refused f b (calls.Tell note) done h s = subst (λ (log : List LogItem). HasSlots f b (record { start = h.start; log = log })) (sym (append-nil h.log)) s
+  refused : (f : ℕ → Bool) (b : Bool) (call : Call) (done : ℕ) (h : History) → HasSlots me f b h → Had f b call replies.NoMemory h (step_items (progresses.Reply replies.NoMemory) me true call done)
+  refused f b (calls.Tell note) done h s = subst (λ (log : List LogItem). HasSlots me f b (record { start = h.start; log = log })) (sym (append-nil h.log)) s
   refused f b call done h s = failed_keeps f b true h s
 
-  seen_then : (f : ℕ → Bool) (b : Bool) (call : Call) (reply : Reply) (done : ℕ) (h : History) → HasSlots f b h → IsWithin call → Legal (state_of h) (step_items (progresses.Reply reply) me true call done) → Had f b call reply h (step_items (progresses.Reply reply) me true call done)
+  seen_then : (f : ℕ → Bool) (b : Bool) (call : Call) (reply : Reply) (done : ℕ) (h : History) → HasSlots me f b h → IsWithin call → Legal (state_of h) (step_items (progresses.Reply reply) me true call done) → Had f b call reply h (step_items (progresses.Reply reply) me true call done)
   seen_then f b call replies.Done done h s within legal = did_done f b call done h s within legal
   seen_then f b call replies.Failed done h s within legal = failed_keeps f b false h s
   seen_then f b call replies.NoMemory done h s within legal = refused f b call done h s
@@ -189,25 +181,22 @@ module _ (me : Who) where
 
   -- ---- of a machine
 
-  abbrev pub HasThose : Op → History → Type 0
-  HasThose m h = HasSlots (slots m) (hurt m) h
-
   asks_allowed : (m : Op) (call : Call) → asks m ≡ Ask call → Allows (slots m) (hurt m) (Ask call)
   asks_allowed m call e = subst (Allows (slots m) (hurt m)) e (allowed m)
 
   -- what it asks for the seat may ask
-  pub machine_may : (m : Op) (call : Call) (h : History) → asks m ≡ Ask call → HasThose m h → MayCall (seen_of me h) call
+  pub machine_may : (m : Op) (call : Call) (h : History) → asks m ≡ Ask call → HasThose me m h → MayCall (seen_of me h) call
   machine_may m call h e s = may_ask (slots m) (hurt m) call h s (asks_allowed m call e).0
 
   -- once it is done no slot is filled
-  pub machine_done : (m : Op) (given : Answer) (h : History) → asks m ≡ Done given → HasThose m h → HasSlots (λ at. false) true h
+  pub machine_done : (m : Op) (given : Answer) (h : History) → asks m ≡ Done given → HasThose me m h → HasSlots me (λ at. false) true h
   machine_done m given h e s =
       let none : Allows (slots m) (hurt m) (Done given) = subst (Allows (slots m) (hurt m)) e (allowed m) in
       record { filled = λ at. s.filled at ∙ none at; inside = s.inside; covers = λ failed. refl }
 
   -- a machine that was fed the reply has the slots that the call left
-  pub machine_goes : (m n : Op) (call : Call) (reply : Reply) (done : ℕ) (h : History) → asks m ≡ Ask call → HasThose m h → Fed (asked m) reply n → Answers true call reply → Legal (state_of h) (step_items (progresses.Reply reply) me true call done)
-      → HasThose n (with_items h (step_items (progresses.Reply reply) me true call done))
+  pub machine_goes : (m n : Op) (call : Call) (reply : Reply) (done : ℕ) (h : History) → asks m ≡ Ask call → HasThose me m h → Fed (asked m) reply n → Answers true call reply → Legal (state_of h) (step_items (progresses.Reply reply) me true call done)
+      → HasThose me n (with_items h (step_items (progresses.Reply reply) me true call done))
   machine_goes m n call reply done h e s fed fits legal =
       let within : IsWithin call = (asks_allowed m call e).1 in
       let moves : Moves (slots m) (hurt m) (left m) call reply (slots n) (hurt n) (left n) = subst (λ (a : Step). Goes (slots m) (hurt m) (left m) a reply (slots n) (hurt n) (left n)) e (goes_on m n reply fed) fits in

@@ -31,7 +31,7 @@ use Rattle.op_machine.specs.declared.op.Op.{Op}
 use Rattle.op_machine.specs.declared.op.Op.TheVariants.{Get, Put, Refuse}
 use Rattle.op_machine.specs.Requests.{IsBuilt, IsOpOf}
 use Rattle.op_machine.proofs.Known as known
-use Rattle.op_machine.proofs.Slots.{HasSlots, HasThose}
+use Rattle.seat_order.specs.Slots.{HasSlots, HasThose}
 
 -- a blob that is too large for an item is
 is_large : (blob : List ℕ) → MAX_BLOB < length blob → is_too_large blob (length blob) ≡ true

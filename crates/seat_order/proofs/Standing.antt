@@ -12,8 +12,7 @@ use Rattle.file_log.specs.declared.reply.Reply.{Reply}
 use Rattle.file_log.specs.declared.reply.Reply.TheVariants as replies
 use Rattle.file_log.specs.declared.ticket.Ticket.{Ticket}
 use Rattle.file_log.specs.Along.{All}
-use Rattle.file_log.specs.Exchange.{Answers, Makes, items_before}
-use Rattle.file_log.specs.Fits.{RequestFits}
+use Rattle.file_log.specs.Exchange.{items_before}
 use Rattle.file_log.specs.Legal.{Legal}
 use Rattle.file_log.specs.Log.{History, with_items, is_own, is_stop}
 use Rattle.file_log.specs.Seat.{MayCall, course_of}
@@ -29,16 +28,17 @@ use Rattle.folder_rules.specs.Places.{past}
 use Rattle.folder_rules.specs.Rules.{KeepsRules}
 use Rattle.folder_changes.proofs.Earning.{earns}
 use Rattle.folder_changes.proofs.Ordering.{stays_in_order}
-use Rattle.folder_store.proofs.Keeping.{CanFollow, IsOut, out_other, out_ended, IsIn, in_then, within_other, begin_rules, begun}
+use Rattle.folder_store.proofs.Keeping.{CanFollow, out_other, out_ended, in_then, within_other, begin_rules, begun}
 use Rattle.op_machine.specs.declared.op.Op.{Op}
 use Rattle.op_machine.specs.declared.op.Op.TheVariants.{Refuse}
 use Rattle.op_machine.specs.Machine.{asks, asked, Fed, slots, hurt}
-use Rattle.op_machine.specs.Places.{Where, Leads}
 use Rattle.op_machine.specs.Requests.{IsBuilt, IsOpOf}
 use Rattle.op_machine.proofs.Known as known
-use Rattle.op_machine.proofs.Making.{none_before, place_at_first, made_all, answers_so}
-use Rattle.op_machine.proofs.Starting.{starts, starts_empty}
-use Rattle.op_machine.proofs.Slots.{HasSlots, HasNone, HasThose, other_keeps, none_other, none_still, byte_keeps, begun_has, machine_may, machine_done, machine_goes}
+use Rattle.seat_order.specs.Places.{Where, Leads}
+use Rattle.seat_order.specs.Standing.{Stands, IsWithin}
+use Rattle.seat_order.proofs.Making.{none_before, place_at_first, made_all, answers_so}
+use Rattle.seat_order.proofs.Starting.{starts, starts_empty}
+use Rattle.seat_order.proofs.Slots.{other_keeps, none_other, none_still, byte_keeps, begun_has, machine_may, machine_done, machine_goes}
 use Rattle.std.proofs.lemmas.List.Sums.{fold-append}
 use Rattle.std.specs.Prelude.{fold}
 use Rattle.file_log.specs.Seat.{Course, course_after}
@@ -48,61 +48,24 @@ use Rattle.folder_rules.proofs.Histories.{goes_by}
 use Rattle.folder_store.proofs.Keeping.{follow, still_rules, within_inner}
 
 module _ (me : Who) where
-  -- so many items of a call were made, whatever its reply will be and whatever it makes until then
-  pub record IsMaking (request : Request) (m : Op) (call : Call) (done : ℕ) (h : History) : Type 0 where
-    pub asks_so : asks m ≡ Ask call
-    pub goes : (reply : Reply) (made rest : List LogItem) → Answers true call reply → Makes me true call reply made → made ≡ items_before me call done ++ rest → known.During me request m call reply rest h
-
-  -- in an operation of the request
-  pub record IsWithin (n : Op) (call : Call) (done : ℕ) (h : History) : Type 0 where
-    pub request : Request
-    pub m : Op
-    pub asked_is : asked m ≡ n
-    pub inside : IsIn me request h
-    pub making : IsMaking request m call done h
-    pub place : IsPlace call done
-    pub seen : HasThose me m h
-
-  -- what its machine gave may end it
-  pub record IsEnding (given : Answer) (h : History) : Type 0 where
-    pub request : Request
-    pub m : Op
-    pub gives : asks m ≡ Done given
-    pub knows : known.Between me request m h
-    pub seen : HasSlots me (λ at. false) true h
-
-  -- the request that was begun can be, and the seat is in its operation
-  pub record HasBegun (request : Request) (h : History) : Type 0 where
-    pub fits : RequestFits request
-    pub inside : IsIn me request h
-    pub seen : HasSlots me (λ at. false) false h
-
-  -- the seat stands there
-  abbrev pub Stands : Where → History → Type 0
-  Stands Where.Outside h = IsOut me h × HasNone me h
-  Stands (Where.Begun request) h = HasBegun request h
-  Stands (Where.Between m) h = (request : Request) × known.Between me request m h × HasThose me m h
-  Stands (Where.Within n call done) h = IsWithin n call done h
-  Stands (Where.Ending given) h = IsEnding given h
-
   -- ---- a Begin
 
   -- before any item it is in no operation
-  pub out_at_first : Stands Where.Outside (past [])
+  pub out_at_first : Stands me Where.Outside (past [])
   out_at_first = (record { order = stays_in_order.0; idle = refl }, λ at. refl)
 
   -- its Begin keeps the rules
-  pub begins : (request : Request) (h : History) → Stands Where.Outside h → CanFollow h (items.Begin me request) → KeepsRules h (items.Begin me request) × Stands (Where.Begun request) (with_item h (items.Begin me request))
+  pub begins : (request : Request) (h : History) → Stands me Where.Outside h → CanFollow h (items.Begin me request) → KeepsRules h (items.Begin me request) × Stands me (Where.Begun request) (with_item h (items.Begin me request))
   begins request h out legal = (begin_rules me request h out.0, record { fits = legal.1; inside = begun me request h out.0 legal; seen = begun_has me request h out.1 })
 
   -- ---- its machine
 
   -- the machine that was made for the request
-  pub gets_machine : (request : Request) (m : Op) (h : History) → IsBuilt request → IsOpOf request m → Stands (Where.Begun request) h → Stands (Where.Between m) h
+  pub gets_machine : (request : Request) (m : Op) (h : History) → IsBuilt request → IsOpOf request m → Stands me (Where.Begun request) h → Stands me (Where.Between m) h
   gets_machine request m h built new b = (request, starts me request m h built new b.fits b.inside, starts_empty me request m h new b.seen)
 
   -- there was no memory for one
-  pub gets_none : (request : Request) (h : History) → Stands (Where.Begun request) h → Stands (Where.Ending answers.NoMemory) h
+  pub gets_none : (request : Request) (h : History) → Stands me (Where.Begun request) h → Stands me (Where.Ending answers.NoMemory) h
   gets_none request h b = record {
     request = request;
     m = Refuse (record { answer = Some answers.NoMemory });
@@ -114,7 +77,7 @@ module _ (me : Who) where
   -- ---- its calls
 
   -- it asks for a call, of which nothing is made yet
-  pub asks_call : (m : Op) (call : Call) (h : History) → asks m ≡ Ask call → Stands (Where.Between m) h → Stands (Where.Within (asked m) call 0) h
+  pub asks_call : (m : Op) (call : Call) (h : History) → asks m ≡ Ask call → Stands me (Where.Between m) h → Stands me (Where.Within (asked m) call 0) h
   asks_call m call h e b = record {
     request = b.0;
     m = m;
@@ -131,7 +94,7 @@ module _ (me : Who) where
   }
 
   -- it gives its answer
-  pub gives_answer : (m : Op) (given : Answer) (h : History) → asks m ≡ Done given → Stands (Where.Between m) h → Stands (Where.Ending given) h
+  pub gives_answer : (m : Op) (given : Answer) (h : History) → asks m ≡ Done given → Stands me (Where.Between m) h → Stands me (Where.Ending given) h
   gives_answer m given h e b = record { request = b.0; m = m; gives = e; knows = b.1; seen = machine_done me m given h e b.2 }
 
   -- ---- one item of a call
@@ -150,10 +113,10 @@ module _ (me : Who) where
   -- what a step did: its items keep the rules, and the seat stands at the place that it leads to
   abbrev pub Steps : Op → Call → ℕ → Progress → Where → History → Type 0
   Steps n call done progress place h =
-      All with_item KeepsRules h (step_items progress me true call done) × Stands place (with_items h (step_items progress me true call done))
+      All with_item KeepsRules h (step_items progress me true call done) × Stands me place (with_items h (step_items progress me true call done))
 
   -- the call is answered
-  answered : (n : Op) (call : Call) (done : ℕ) (reply : Reply) (n' : Op) (h : History) → IsWithin n call done h → StepFits (progresses.Reply reply) true call done → Legal (state_of h) (step_items (progresses.Reply reply) me true call done) → Fed n reply n'
+  answered : (n : Op) (call : Call) (done : ℕ) (reply : Reply) (n' : Op) (h : History) → IsWithin me n call done h → StepFits (progresses.Reply reply) true call done → Legal (state_of h) (step_items (progresses.Reply reply) me true call done) → Fed n reply n'
       → Steps n call done (progresses.Reply reply) (Where.Between n') h
   answered n call done reply n' h w fits legal fed =
       let news = step_items (progresses.Reply reply) me true call done in
@@ -164,8 +127,8 @@ module _ (me : Who) where
       (g.0, (w.request, subst (known.Between me w.request n') (goes_by h news) knows, machine_goes me w.m n' call reply done h w.making.asks_so w.seen fed' (answers_so me true call done reply fits) legal))
 
   -- a byte of the write is made, and others are left
-  byte_made : (n : Op) (slot at : ℕ) (bytes : List ℕ) (done : ℕ) (h : History) → IsWithin n (calls.WriteAt slot at bytes) done h → done + 1 < length bytes → CanFollow h (byte slot at bytes done)
-      → KeepsRules h (byte slot at bytes done) × IsWithin n (calls.WriteAt slot at bytes) (done + 1) (with_item h (byte slot at bytes done))
+  byte_made : (n : Op) (slot at : ℕ) (bytes : List ℕ) (done : ℕ) (h : History) → IsWithin me n (calls.WriteAt slot at bytes) done h → done + 1 < length bytes → CanFollow h (byte slot at bytes done)
+      → KeepsRules h (byte slot at bytes done) × IsWithin me n (calls.WriteAt slot at bytes) (done + 1) (with_item h (byte slot at bytes done))
   unfolding byte
   byte_made n slot at bytes done h w more legal =
       let call : Call = calls.WriteAt slot at bytes in
@@ -190,12 +153,12 @@ module _ (me : Who) where
         },
       )
 
-  place_is : (place : Where) (n : Op) (call : Call) (done : ℕ) (h : History) → Leads n call done progresses.More place → Stands (Where.Within n call (done + 1)) h → Stands place h
+  place_is : (place : Where) (n : Op) (call : Call) (done : ℕ) (h : History) → Leads n call done progresses.More place → Stands me (Where.Within n call (done + 1)) h → Stands me place h
   place_is (Where.Within n' call' done') n call done h leads s =
-      subst (λ (k : ℕ). Stands (Where.Within n' call' k) h) (sym leads.2) (subst (λ (c : Call). Stands (Where.Within n' c (done + 1)) h) (sym leads.1) (subst (λ (m : Op). Stands (Where.Within m call (done + 1)) h) (sym leads.0) s))
+      subst (λ (k : ℕ). Stands me (Where.Within n' call' k) h) (sym leads.2) (subst (λ (c : Call). Stands me (Where.Within n' c (done + 1)) h) (sym leads.1) (subst (λ (m : Op). Stands me (Where.Within m call (done + 1)) h) (sym leads.0) s))
   place_is place n call done h leads s = absurd leads
 
-  goes_more : (n : Op) (call : Call) (done : ℕ) (place : Where) (h : History) → Stands (Where.Within n call done) h → StepFits progresses.More true call done → Legal (state_of h) (step_items progresses.More me true call done) → Leads n call done progresses.More place
+  goes_more : (n : Op) (call : Call) (done : ℕ) (place : Where) (h : History) → Stands me (Where.Within n call done) h → StepFits progresses.More true call done → Legal (state_of h) (step_items progresses.More me true call done) → Leads n call done progresses.More place
       → Steps n call done progresses.More place h
   unfolding byte
   goes_more n (calls.WriteAt slot at bytes) done place h w more legal leads =
@@ -204,7 +167,7 @@ module _ (me : Who) where
   goes_more n call done place h w more legal leads = absurd more
 
   -- One step of a call: the item that it makes, if it makes one, keeps the rules.
-  pub steps : (n : Op) (call : Call) (done : ℕ) (progress : Progress) (place : Where) (h : History) → Stands (Where.Within n call done) h → StepFits progress true call done → Legal (state_of h) (step_items progress me true call done) → Leads n call done progress place
+  pub steps : (n : Op) (call : Call) (done : ℕ) (progress : Progress) (place : Where) (h : History) → Stands me (Where.Within n call done) h → StepFits progress true call done → Legal (state_of h) (step_items progress me true call done) → Leads n call done progress place
       → Steps n call done progress place h
   steps n call done progresses.More place h w fits legal leads = goes_more n call done place h w fits legal leads
   steps n call done (progresses.Reply reply) (Where.Between n') h w fits legal leads = answered n call done reply n' h w fits legal leads
@@ -212,14 +175,14 @@ module _ (me : Who) where
 
   -- ---- its End
 
-  pub ends : (given answer : Answer) (h : History) → Stands (Where.Ending given) h → IsEndOf given answer → CanFollow h (items.End me answer) → KeepsRules h (items.End me answer) × Stands Where.Outside (with_item h (items.End me answer))
+  pub ends : (given answer : Answer) (h : History) → Stands me (Where.Ending given) h → IsEndOf given answer → CanFollow h (items.End me answer) → KeepsRules h (items.End me answer) × Stands me Where.Outside (with_item h (items.End me answer))
   ends given answer h s is legal =
       let rules = known.ends me s.request s.m given answer h s.knows s.gives is in
       (rules, (out_ended me h answer (known.is_in me s.request s.m h s.knows).order legal rules, none_still me h (items.End me answer) s.seen.filled refl))
 
   -- ---- a job that is taken outside of operations
 
-  pub takes : (ticket : Ticket) (h : History) → Stands Where.Outside h → CanFollow h (items.Taken me ticket) → KeepsRules h (items.Taken me ticket) × Stands Where.Outside (with_item h (items.Taken me ticket))
+  pub takes : (ticket : Ticket) (h : History) → Stands me Where.Outside h → CanFollow h (items.Taken me ticket) → KeepsRules h (items.Taken me ticket) × Stands me Where.Outside (with_item h (items.Taken me ticket))
   takes ticket h out legal =
       let x : LogItem = items.Taken me ticket in
       let rules = still_rules h x out.0.order tt (record { names = λ name. refl; files = λ file. refl }) in (
@@ -236,7 +199,7 @@ module _ (me : Who) where
   -- ---- others' items
 
   -- an item of another that keeps the rules and stops no process of the seat
-  pub stays : (place : Where) (h : History) (x : LogItem) → Stands place h → is_own me x ≡ false → is_stop me.process x ≡ false → CanFollow h x → KeepsRules h x → Stands place (with_item h x)
+  pub stays : (place : Where) (h : History) (x : LogItem) → Stands me place h → is_own me x ≡ false → is_stop me.process x ≡ false → CanFollow h x → KeepsRules h x → Stands me place (with_item h x)
   stays Where.Outside h x s other goes legal rules = (out_other me h x s.0 other legal rules, none_other me h x s.1 other goes)
   stays (Where.Begun request) h x s other goes legal rules = record { fits = s.fits; inside = in_then me request h x s.inside (within_other me x other) legal rules; seen = other_keeps me (λ at. false) false h x s.seen other goes }
   stays (Where.Between m) h x s other goes legal rules = (s.0, (known.inductive me s.0).between m x h s.1 other goes legal rules, other_keeps me (slots m) (hurt m) h x s.2 other goes)
@@ -263,23 +226,23 @@ module _ (me : Who) where
   -- ---- what it may do there
 
   -- the call that its machine asked for
-  pub may_call : (n : Op) (call : Call) (done : ℕ) (h : History) → Stands (Where.Within n call done) h → MayCall (seen_of me h) call
+  pub may_call : (n : Op) (call : Call) (done : ℕ) (h : History) → Stands me (Where.Within n call done) h → MayCall (seen_of me h) call
   may_call n call done h s = machine_may me s.m call h s.making.asks_so s.seen
 
   -- the byte that comes next is one of the write's
-  pub is_place : (n : Op) (call : Call) (done : ℕ) (h : History) → Stands (Where.Within n call done) h → IsPlace call done
+  pub is_place : (n : Op) (call : Call) (done : ℕ) (h : History) → Stands me (Where.Within n call done) h → IsPlace call done
   is_place n call done h s = s.place
 
   -- its operation is open
-  pub is_inside : (n : Op) (call : Call) (done : ℕ) (h : History) → Stands (Where.Within n call done) h → (course_of me h.log).inside ≡ true
+  pub is_inside : (n : Op) (call : Call) (done : ℕ) (h : History) → Stands me (Where.Within n call done) h → (course_of me h.log).inside ≡ true
   is_inside n call done h s = s.seen.inside
 
-  pub ending_inside : (given : Answer) (h : History) → Stands (Where.Ending given) h → (course_of me h.log).inside ≡ true
+  pub ending_inside : (given : Answer) (h : History) → Stands me (Where.Ending given) h → (course_of me h.log).inside ≡ true
   ending_inside given h s = s.seen.inside
 
-  pub begun_inside : (request : Request) (h : History) → Stands (Where.Begun request) h → (course_of me h.log).inside ≡ true
+  pub begun_inside : (request : Request) (h : History) → Stands me (Where.Begun request) h → (course_of me h.log).inside ≡ true
   begun_inside request h s = s.seen.inside
 
   -- or none is
-  pub out_idle : (h : History) → Stands Where.Outside h → (course_of me h.log).inside ≡ false
+  pub out_idle : (h : History) → Stands me Where.Outside h → (course_of me h.log).inside ≡ false
   out_idle h s = s.0.idle
