@@ -3,7 +3,7 @@ ghost use Rattle.file_log.specs.Legal.{IsPut};
 
 use cache_types::{Bytes, Driver, Key, Layout, Meta, Name, Request, Store, Who};
 use file_log::{Call, LogItem, Reply, Ticket, request_known};
-use file_model::{World, disk_of, first_illegal};
+use file_model::{Fate, Progress, World, disk_of, first_illegal};
 use std::alloc::Global;
 use std::test::Fail;
 
@@ -104,5 +104,20 @@ fn a_job_waits_until_it_is_taken(rt: HostRuntime) -> Result<(), Fail> {
     world.queued(1, TICKET, request)?;
     world.taken(ME, TICKET)?;
     assert_eq!(rt; world.log_len(), 2);
+    Ok(())
+}
+
+// The clock's number is told, a process is stopped, and the log has both.
+#[test]
+fn a_world_tells_what_was_done(rt: HostRuntime) -> Result<(), Fail> {
+    let mut world = World::new(rt.alloc());
+    world.set_clock(7);
+    let progress = world.step(ME, &Call::Now, 0, Fate::Go);
+    assert!(rt; matches!(progress, Progress::Reply(Reply::Number(7))));
+    world.stop(2)?;
+    assert_eq!(rt; world.log_len(), 2);
+    assert_eq!(rt; world.log()?.len(), 2);
+    assert!(rt; world.is_halted(2));
+    assert!(rt; world.file(&Name::List)?.is_none());
     Ok(())
 }
