@@ -7,7 +7,7 @@ use cache_types::{Answer, Bytes, Driver, Key, NoMemory, Request, Store, Text, Wh
 use std::alloc::Global;
 
 /// One thing that was done, by whom. A log is a list of them.
-#[derive(Debug, Drop)]
+#[derive(Debug)]
 pub enum LogItem {
     /// A job was put into a process's queue.
     Queued {
@@ -70,6 +70,53 @@ pub enum LogItem {
     SetList {
         text: Option<Bytes>,
     },
+}
+
+impl Drop for LogItem {
+    fn drop(self) {
+        match self {
+            LogItem::Queued {
+                process: _,
+                ticket: _,
+                request: _request,
+            } => {}
+            LogItem::Taken { who: _, ticket: _ } => {}
+            LogItem::Begin {
+                who: _,
+                request: _request,
+            } => {}
+            LogItem::Did {
+                who: _,
+                call: _call,
+                reply: _reply,
+            } => {}
+            LogItem::Byte {
+                who: _,
+                slot: _,
+                at: _,
+                value: _,
+            } => {}
+            LogItem::Failed { who: _, memory: _ } => {}
+            LogItem::Evict {
+                who: _,
+                store: _,
+                driver: _driver,
+                key: _,
+            } => {}
+            LogItem::End {
+                who: _,
+                answer: _answer,
+            } => {}
+            LogItem::Stop { process: _ } => {}
+            LogItem::Install {
+                root: _,
+                name: _name,
+                main: _main,
+                index: _index,
+            } => {}
+            LogItem::SetList { text: _text } => {}
+        }
+    }
 }
 
 /// The same bytes in memory of their own, where there are any.

@@ -90,19 +90,16 @@ legal_at s (x ∷ xs) (suc i) item legal less is = legal_at (after s x) xs i ite
 
 -- ---- a world that has done again the first items of a log, and then does the next
 
-pub next_done : (held : Held) (log : List LogItem) (i : ℕ) (world new : Held) (item copy : LogItem) → i < length log → item ≡ get_or log i item
-    → world ≡ with_log held (take i log) → new ≡ told world (copy ∷ []) → copy ≡ item → new ≡ with_log held (take (i + 1) log)
-next_done held log i world new item copy less is redone more same =
+pub next_done : (held : Held) (log : List LogItem) (i : ℕ) (world new : Held) (item : LogItem) → i < length log → item ≡ get_or log i item
+    → world ≡ with_log held (take i log) → new ≡ told world (item ∷ []) → new ≡ with_log held (take (i + 1) log)
+next_done held log i world new item less is redone more =
     more
-    ∙ ap (λ (h : Held). told h (copy ∷ [])) redone
-    ∙ ap (λ (x : LogItem). with_log held (take i log ++ x ∷ [])) (same ∙ is)
+    ∙ ap (λ (h : Held). told h (item ∷ [])) redone
+    ∙ ap (λ (x : LogItem). with_log held (take i log ++ x ∷ [])) is
     ∙ ap (with_log held) (sym (take_more log i item less))
 
-pub next_state : (world new : Held) (item copy : LogItem) → new ≡ told world (copy ∷ []) → copy ≡ item → state_of new.past ≡ after (state_of world.past) item
-next_state world new item copy more same =
-    ap (λ (h : Held). state_of h.past) more
-    ∙ fold-append after (first world.past.start) world.past.log (copy ∷ [])
-    ∙ ap (after (state_of world.past)) same
+pub next_state : (world new : Held) (item : LogItem) → new ≡ told world (item ∷ []) → state_of new.past ≡ after (state_of world.past) item
+next_state world new item more = ap (λ (h : Held). state_of h.past) more ∙ fold-append after (first world.past.start) world.past.log (item ∷ [])
 
 pub next_legal : (held : Held) (log : List LogItem) (i : ℕ) (world : Held) (item : LogItem) → i < length log → item ≡ get_or log i item → world ≡ with_log held (take i log)
     → Legal (first held.past.start) (take i log) → IsLegal (state_of world.past) item → Legal (first held.past.start) (take (i + 1) log)

@@ -26,8 +26,7 @@ pub fn first_illegal(start: &World, log: &[LogItem]) -> Result<Option<u64>, NoMe
             return Ok(Some(index as u64));
         }
         queues.follow(item)?;
-        let told = item.copy(world.alloc())?;
-        world.replay(told)?;
+        world.repeat(item)?;
     }
     Ok(None)
 }

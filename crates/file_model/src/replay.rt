@@ -1,12 +1,13 @@
 ghost use Rattle.std.specs.Prelude.{◌≡◌, ◌≤◌, ◌∷◌, [], length, take, IfOk, OnOk, OnErr};
+ghost use Rattle.file_log.specs.declared.item.LogItem.TheVariants as items;
 ghost use Rattle.file_log.specs.Legal.{IsLegal, Legal};
 ghost use Rattle.file_log.specs.State.{first, state_of};
 ghost use Rattle.file_model.specs.Held.{told, first_of, with_log};
 ghost use Rattle.world_tables.specs.Pieces.{items_of_run, items_of_piece, items_grown};
 
 use crate::world::World;
-use cache_types::{Bytes, Name, NoMemory};
-use file_log::{LogItem, Note};
+use cache_types::{Bytes, Name, NoMemory, Text, Who};
+use file_log::{Call, LogItem, Note, Reply};
 use std::alloc::Global;
 use world_tables::{Piece, Run, len_of_piece};
 
@@ -17,8 +18,7 @@ pub fn disk_of(start: &World, log: &[LogItem]) -> Result<World, NoMemory>
 {
     let mut world = start.opening()?;
     for item in log {
-        let told = item.copy(world.alloc())?;
-        world.replay(told)?;
+        world.repeat(item)?;
     }
     Ok(world)
 }
@@ -58,7 +58,7 @@ impl World {
                 if most == 0 {
                     return Ok(());
                 }
-                self.replay(item.copy(self.alloc())?)
+                self.repeat(item)
             }
             Piece::Written(run) => self.replay_run(run, most),
         }
@@ -94,27 +94,77 @@ impl World {
         ensures ok { OnOk result (self.new ≡ told self.old (item ∷ [])) }
         ensures err { OnErr result (self.new ≡ self.old) }
     {
+        self.repeat(&item)
+    }
+
+    /// The same of an item that stays where it is: what the log keeps of it is a copy.
+    pub fn repeat(&mut self, item: &LogItem) -> Result<(), NoMemory>
+        requires { IsLegal (state_of self.old.past) item.now }
+        ensures ok { OnOk result (self.new ≡ told self.old (item.now ∷ [])) }
+        ensures err { OnErr result (self.new ≡ self.old) }
+    {
         match item {
-            LogItem::Begin { who, request } => self.tell(who, Note::Begin(request)),
-            LogItem::Did { who, call, reply } => self.answered(who, call, reply),
+            LogItem::Begin { who, request } => {
+                self.tell(*who, Note::Begin(request.copy(self.alloc())?))
+            }
+            LogItem::Did { who, call, reply } => self.repeat_call(*who, call, reply),
             LogItem::Byte {
                 who,
                 slot,
                 at,
                 value,
-            } => self.write_byte(who, slot, at, value),
-            LogItem::Failed { who, memory } => self.fail(who, memory),
-            LogItem::End { who, answer } => self.tell(who, Note::End(answer)),
-            LogItem::Stop { process } => self.stop(process),
+            } => self.write_byte(*who, *slot, *at, *value),
+            LogItem::Failed { who, memory } => self.fail(*who, *memory),
+            LogItem::End { who, answer } => {
+                self.tell(*who, Note::End(answer.copy(self.alloc())?))
+            }
+            LogItem::Stop { process } => self.stop(*process),
             LogItem::Install {
                 root,
                 name,
                 main,
                 index,
-            } => self.install(root, name, main, index),
-            LogItem::SetList { text } => self.set_list(text),
-            item => self.add_plain(item),
+            } => self.repeat_install(*root, name, main, index),
+            LogItem::SetList { text } => self.set_list(copy_text(text)?),
+            _ => self.add_plain(item.copy(self.alloc())?),
         }
+    }
+
+    /// Makes a call again that is answered so.
+    fn repeat_call(&mut self, who: Who, call: &Call, reply: &Reply) -> Result<(), NoMemory>
+        requires { IsLegal (state_of self.old.past) (items.Did who call.now reply.now) }
+        ensures ok { OnOk result (self.new ≡ told self.old (items.Did who call.now reply.now ∷ [])) }
+        ensures err { OnErr result (self.new ≡ self.old) }
+    {
+        let reply = reply.copy()?;
+        self.answered(who, call.copy(self.alloc())?, reply)
+    }
+
+    /// Brings a read-only database again.
+    fn repeat_install(
+        &mut self,
+        root: u32,
+        name: &Text,
+        main: &Bytes,
+        index: &Bytes,
+    ) -> Result<(), NoMemory>
+        requires { IsLegal (state_of self.old.past) (items.Install root name.now main.now index.now) }
+        ensures ok { OnOk result (self.new ≡ told self.old (items.Install root name.now main.now index.now ∷ [])) }
+        ensures err { OnErr result (self.new ≡ self.old) }
+    {
+        let name = name.copy()?;
+        let main = main.copy()?;
+        self.install(root, name, main, index.copy()?)
+    }
+}
+
+/// The same bytes in memory of their own, where there are any.
+fn copy_text(text: &Option<Bytes>) -> Result<Option<Bytes>, NoMemory>
+    ensures { IfOk result (λ copy. copy ≡ text.now) }
+{
+    match text {
+        None => Ok(None),
+        Some(text) => Ok(Some(text.copy()?)),
     }
 }
 

@@ -27,7 +27,7 @@ use world_tables::{Book, Piece, Run, Tables, answer_in_room, install_in_room, li
 /// Files in memory, all that was done to them, and a clock. Contracts see the files that were there at
 /// first, the log, and the clock. A world keeps memory for what can't be refused: a Close of each filled
 /// slot, and of each open operation its End and its first failure.
-#[derive(Debug, Drop)]
+#[derive(Debug)]
 pub struct World {
     alloc: Global,
     start: Vec<(Name, Bytes)>,
@@ -36,6 +36,20 @@ pub struct World {
     halted: HashSet<u32>,
     operations: Operations,
     clock: u64,
+}
+
+impl Drop for World {
+    fn drop(self) {
+        let World {
+            alloc: _,
+            start: _start,
+            book: _book,
+            tables: _tables,
+            halted: _halted,
+            operations: _operations,
+            clock: _,
+        } = self;
+    }
 }
 
 impl Model for World {

@@ -2,10 +2,19 @@ ghost use Rattle.std.specs.Prelude.{◌≡◌};
 ghost use Rattle.memory_files.specs.Failing.{is_due, counted};
 
 /// The numbers of the calls that are to fail, counted from 0, and how many calls there were.
-#[derive(Debug, Drop)]
+#[derive(Debug)]
 pub struct Failing {
     pub numbers: Vec<u64>,
     pub calls: u64,
+}
+
+impl Drop for Failing {
+    fn drop(self) {
+        let Failing {
+            numbers: _numbers,
+            calls: _,
+        } = self;
+    }
 }
 
 impl Failing {

@@ -11,13 +11,24 @@ use files_api::Files;
 use std::alloc::Global;
 
 /// Files in memory, which one seat calls. All that is done to them is told.
-#[derive(Debug, Drop)]
+#[derive(Debug)]
 pub struct MemFiles {
     world: World,
     me: Who,
     plan: Plan,
     faults: u64,
     ghost goes_on: { (state_of world.past).halted me.process ≡ false },
+}
+
+impl Drop for MemFiles {
+    fn drop(self) {
+        let MemFiles {
+            world: _world,
+            me: _,
+            plan: _plan,
+            faults: _,
+        } = self;
+    }
 }
 
 impl MemFiles {
@@ -107,7 +118,13 @@ impl MemFiles {
         ensures world { result ≡ world_of self }
         ensures history { ⟦<MemFiles as Files>⟧.history self ≡ Some result.past }
     {
-        self.world
+        let MemFiles {
+            world,
+            me: _,
+            plan: _plan,
+            faults: _,
+        } = self;
+        world
     }
 
     /// Whether the seat may make this call now.

@@ -11,12 +11,21 @@ use std::alloc::Global;
 
 /// Files in memory that one seat has to itself: every item of their log is its own, and no call fails other
 /// than for want of memory.
-#[derive(Debug, Drop)]
+#[derive(Debug)]
 pub struct LoneFiles {
     world: World,
     me: Who,
     ghost goes_on: { (state_of world.past).halted me.process ≡ false },
     ghost alone: { own me world.past.log ≡ world.past.log },
+}
+
+impl Drop for LoneFiles {
+    fn drop(self) {
+        let LoneFiles {
+            world: _world,
+            me: _,
+        } = self;
+    }
 }
 
 impl LoneFiles {

@@ -15,10 +15,19 @@ pub struct Fault {
 }
 
 /// Which calls are to fail, and how many there were.
-#[derive(Debug, Drop)]
+#[derive(Debug)]
 pub struct Plan {
     pub faults: Vec<Fault>,
     pub calls: u64,
+}
+
+impl Drop for Plan {
+    fn drop(self) {
+        let Plan {
+            faults: _faults,
+            calls: _,
+        } = self;
+    }
 }
 
 impl Plan {

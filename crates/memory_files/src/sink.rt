@@ -9,11 +9,21 @@ use std::alloc::Global;
 
 /// Bytes in memory, which grow at their end. A write adds all of its bytes. It fails where
 /// [`MemSink::new`] was told so, and where there is no memory for them.
-#[derive(Debug, Drop)]
+#[derive(Debug)]
 pub struct MemSink {
     bytes: Vec<u8>,
     failing: Failing,
     faults: u64,
+}
+
+impl Drop for MemSink {
+    fn drop(self) {
+        let MemSink {
+            bytes: _bytes,
+            failing: _failing,
+            faults: _,
+        } = self;
+    }
 }
 
 impl MemSink {

@@ -7,17 +7,28 @@ ghost use Rattle.world_tables.specs.Told.{with_news, with_one};
 use crate::piece::{Piece, Run};
 use cache_types::{Bytes, NoMemory, Who};
 use file_log::LogItem;
-use std::alloc::Global;
+use std::alloc::{AllocFailed, Global};
 use std::marker::Model;
 
 /// The log of a world. Bytes that were written one after another are kept as one piece, from the first
 /// of them on. It can take memory beforehand, so that an item that comes later is never refused.
-#[derive(Debug, Drop)]
+#[derive(Debug)]
 pub struct Book {
     alloc: Global,
     pieces: Vec<Piece>,
     growing: Option<Run>,
     room: usize,
+}
+
+impl Drop for Book {
+    fn drop(self) {
+        let Book {
+            alloc: _,
+            pieces: _pieces,
+            growing: _growing,
+            room: _,
+        } = self;
+    }
 }
 
 impl Model for Book {
@@ -154,6 +165,9 @@ fn goes_on(run: &Run, who: Who, slot: u8, at: u64) -> bool
     run.who == who && run.slot == slot && end == at
 }
 
+/// Lets go of what a push into room that is there can't refuse.
+fn discard(_: Result<(), AllocFailed<Piece>>) {}
+
 /// Ends the run that grows.
 fn settle(pieces: &mut Vec<Piece>, growing: &mut Option<Run>)
     requires { vec_len pieces.old + runs_grown growing.old ≤ vec_capacity pieces.old }
@@ -163,7 +177,7 @@ fn settle(pieces: &mut Vec<Piece>, growing: &mut Option<Run>)
     ensures capacity { vec_capacity pieces.old ≤ vec_capacity pieces.new }
 {
     if let Some(run) = growing.take() {
-        let _pushed = pieces.push(Piece::Written(run));
+        discard(pieces.push(Piece::Written(run)));
     }
 }
 
@@ -176,7 +190,7 @@ fn add(pieces: &mut Vec<Piece>, growing: &mut Option<Run>, piece: Piece)
     ensures capacity { vec_capacity pieces.old ≤ vec_capacity pieces.new }
 {
     settle(pieces, growing);
-    let _pushed = pieces.push(piece);
+    discard(pieces.push(piece));
 }
 
 /// How many items a run stands for.

@@ -12,9 +12,15 @@ use std::alloc::Global;
 use std::marker::Model;
 
 /// The bytes of a file.
-#[derive(Debug, Drop)]
+#[derive(Debug)]
 pub struct File {
     held: Vec<u8>,
+}
+
+impl Drop for File {
+    fn drop(self) {
+        let File { held: _held } = self;
+    }
 }
 
 impl Model for File {

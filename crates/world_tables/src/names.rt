@@ -30,7 +30,7 @@ pub struct FolderPlace {
 }
 
 /// The number of the file that each name has.
-#[derive(Debug, Drop)]
+#[derive(Debug)]
 pub struct Names {
     /// Those of entries, of which there may be many.
     pub entries: HashMap<KeyPlace, usize>,
@@ -40,6 +40,17 @@ pub struct Names {
     pub locks: HashMap<FolderPlace, usize>,
     /// All others, which are few.
     pub others: Vec<NamedFile>,
+}
+
+impl Drop for Names {
+    fn drop(self) {
+        let Names {
+            entries: _entries,
+            temps: _temps,
+            locks: _locks,
+            others: _others,
+        } = self;
+    }
 }
 
 /// What stands at a place gets this number. A refusal changes no number.
@@ -119,13 +130,32 @@ impl Names {
         ensures ok { OnOk result ((n : Name) → number_in self.new n ≡ (if same_name name n then Some file else number_in self.old n)) }
         ensures err { OnErr result ((n : Name) → number_in self.new n ≡ number_in self.old n) }
     {
-        match name {
-            Name::Entry { root, key } => put_at(&mut self.entries, KeyPlace { root, key }, file),
-            Name::Temp { root, key } => put_at(&mut self.temps, KeyPlace { root, key }, file),
-            Name::FolderLock { root, byte } => {
-                put_at(&mut self.locks, FolderPlace { root, byte }, file)
-            }
-            name => add_name(&mut self.others, NamedFile { name, file }),
+        match &name {
+            Name::Entry { root, key } => put_at(
+                &mut self.entries,
+                KeyPlace {
+                    root: *root,
+                    key: *key,
+                },
+                file,
+            ),
+            Name::Temp { root, key } => put_at(
+                &mut self.temps,
+                KeyPlace {
+                    root: *root,
+                    key: *key,
+                },
+                file,
+            ),
+            Name::FolderLock { root, byte } => put_at(
+                &mut self.locks,
+                FolderPlace {
+                    root: *root,
+                    byte: *byte,
+                },
+                file,
+            ),
+            _ => add_name(&mut self.others, NamedFile { name, file }),
         }
     }
 

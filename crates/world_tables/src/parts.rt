@@ -1,10 +1,19 @@
 use cache_types::{Name, Who};
 
 /// A name, and the number of the file that it has.
-#[derive(Debug, Drop)]
+#[derive(Debug)]
 pub struct NamedFile {
     pub name: Name,
     pub file: usize,
+}
+
+impl Drop for NamedFile {
+    fn drop(self) {
+        let NamedFile {
+            name: _name,
+            file: _,
+        } = self;
+    }
 }
 
 /// A filled slot of a seat, and the number of the file that it stands for.

@@ -26,12 +26,23 @@ use lock_model::Holders;
 use std::alloc::Global;
 
 /// The files of a disk with their names, and who has them open and locked.
-#[derive(Debug, Drop)]
+#[derive(Debug)]
 pub struct Tables {
     pub names: Names,
     pub files: Vec<File>,
     pub slots: Vec<OpenSlot>,
     pub locks: Holders<LockHolder>,
+}
+
+impl Drop for Tables {
+    fn drop(self) {
+        let Tables {
+            names: _names,
+            files: _files,
+            slots: _slots,
+            locks: _locks,
+        } = self;
+    }
 }
 
 /// Gives a name an empty file, and a slot that file. It does both or neither.
