@@ -200,6 +200,19 @@ cases=$((cases + 1))
 try --help </dev/null
 [ "$status" -eq 0 ] && [ -s out ] && [ ! -s err ] || wrong "--help: status $status, or no text"
 cases=$((cases + 1))
+cp out help
+for word in -h help; do
+    try $word </dev/null
+    [ "$status" -eq 0 ] && cmp -s out help || wrong "$word: status $status, or another text than that of --help"
+    cases=$((cases + 1))
+done
+try -V </dev/null
+[ "$status" -eq 0 ] && [ "$(cat out)" = "$("$program" --version)" ] || wrong "-V: status $status, or another text than that of --version"
+cases=$((cases + 1))
+for words in "-h get" "help get" "-V now"; do
+    # shellcheck disable=SC2086
+    unread $words
+done
 if [ -c /dev/full ]; then
     for word in --help --version; do
         "$program" $word </dev/null >/dev/full 2>err

@@ -11,7 +11,7 @@ use settings_read::CacheSettings;
 use std::alloc::Global;
 
 /// What a put or a get is done with, but the blob.
-#[derive(Debug, Drop)]
+#[derive(Drop)]
 pub struct Admitted {
     pub settings: CacheSettings,
     pub keys: NamedKeys,

@@ -11,7 +11,7 @@ use report_text::Status;
 use std::alloc::Global;
 
 /// The keys that words name: that of the entry, and what its item says of its sources.
-#[derive(Debug, Drop)]
+#[derive(Drop)]
 pub struct NamedKeys {
     /// KEY.
     pub key: Key,

@@ -1,5 +1,5 @@
 //! What crosses crates: a lookup, and a put and a lookup, by the top call over files in memory, whose contracts
-//! are their outcomes; and tests of them, over files in memory.
+//! are their outcomes.
 #![tactic(auto)]
 
 mod premises;
@@ -9,6 +9,4 @@ pub use premises::abc_is_found;
 pub use round_trip::abc_is_put_and_found;
 
 #[cfg(test)]
-mod lookups;
-#[cfg(test)]
-mod puts;
+mod met;

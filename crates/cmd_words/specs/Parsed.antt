@@ -27,9 +27,13 @@ place_rule = record (new_rule (codes "places")) { action = Some Append }
 abbrev pub bare_app : App
 bare_app = on_top (λ top. record top { no_binary_name = true; disable_help_flag = true; disable_version_flag = true }) (new_app (codes "words"))
 
+-- with these options
+abbrev pub with_options : App → List (List ℕ) → App
+with_options app names = fold (λ made name. with_rule made (option_rule name)) app names
+
 -- all of them
 abbrev pub words_app : App
-words_app = with_rule (fold (λ app name. with_rule app (option_rule name)) bare_app option_names) place_rule
+words_app = with_rule (with_options bare_app option_names) place_rule
 
 -- ---- what its matches say
 

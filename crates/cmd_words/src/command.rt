@@ -9,7 +9,6 @@ use cache_types::{Layout, TextList};
 
 /// A command as words give it. What it asks for is told of any such value, also of one that no words give, and
 /// takes no memory.
-#[derive(Debug, Drop)]
 pub struct Command {
     /// The first word.
     pub word: Word,
@@ -17,6 +16,16 @@ pub struct Command {
     pub options: OptionList,
     /// The positional words, in their order.
     pub places: TextList,
+}
+
+impl Drop for Command {
+    fn drop(self) {
+        let Command {
+            word: _,
+            options: _options,
+            places: _places,
+        } = self;
+    }
 }
 
 /// The layout of this name.

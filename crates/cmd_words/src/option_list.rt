@@ -5,10 +5,18 @@ use std::alloc::Global;
 use std::marker::Model;
 
 /// An option: its name without the dashes, and its value.
-#[derive(Debug, Drop)]
 pub struct OptionPair {
     pub name: Text,
     pub value: Text,
+}
+
+impl Drop for OptionPair {
+    fn drop(self) {
+        let OptionPair {
+            name: _name,
+            value: _value,
+        } = self;
+    }
 }
 
 impl OptionPair {
@@ -24,9 +32,14 @@ impl OptionPair {
 }
 
 /// Options in the order of the words, which contracts see as their list.
-#[derive(Debug, Drop)]
 pub struct OptionList {
     items: Vec<OptionPair>,
+}
+
+impl Drop for OptionList {
+    fn drop(self) {
+        let OptionList { items: _items } = self;
+    }
 }
 
 impl Model for OptionList {

@@ -1,7 +1,7 @@
 ghost use Rattle.std.specs.Prelude.{◌≡◌, ◌++◌, ◌∷◌, [], Some, None, true, false, Err, IfOk, OnOk, map, string_bytes};
 ghost use Rattle.clap.specs.Words.{app_of, with_rule, rows_of, found_of, matches_of, fault_of, kind_of};
 ghost use Rattle.cmd_words.specs.Options.{has_no_repeat};
-ghost use Rattle.cmd_words.specs.Parsed.{option_rule, words_app, options_in, options_named, places_in, has_stray, taken_parts};
+ghost use Rattle.cmd_words.specs.Parsed.{option_rule, bare_app, with_options, words_app, options_in, options_named, places_in, has_stray, taken_parts};
 
 use crate::command::Command;
 use crate::option_list::{OptionList, OptionPair};
@@ -15,6 +15,11 @@ use std::alloc::Global;
 
 /// What clap calls the positional words.
 const PLACES: &str = "places";
+
+/// The options of all commands.
+const OPTIONS: [&str; 8] = [
+    "id", "gpu", "flags", "root", "layout", "limit", "meta", "mode",
+];
 
 /// Whether a word before any `--` begins with a single dash. Clap would take a lone dash for a positional word.
 fn has_stray(words: &[String]) -> bool
@@ -44,22 +49,38 @@ fn with_option<'a>(alloc: Global, parser: Parser<'a>, name: &'a str) -> Result<P
     Ok(parser.arg(option)?)
 }
 
+/// Adds options to a parser, in this order.
+fn with_options<'a>(
+    alloc: Global,
+    bare: Parser<'a>,
+    names: &[&'a str],
+) -> Result<Parser<'a>, NoMemory>
+    ensures { IfOk result (λ made. app_of made ≡ with_options (app_of bare.entry) (map (λ name. name.now) names.now)) }
+{
+    let mut parser = bare;
+    let mut rest = names;
+    while let [name, tail @ ..] = rest {
+        parser = with_option(alloc, parser, name)?;
+        rest = tail;
+    }
+    Ok(parser)
+}
+
+/// A parser of no words, with no help, no version, and no program's name in front.
+fn bare_parser<'a>(alloc: Global) -> Parser<'a>
+    ensures { app_of result ≡ bare_app }
+{
+    Parser::new(alloc, "words")
+        .no_binary_name(true)
+        .disable_help_flag(true)
+        .disable_version_flag(true)
+}
+
 /// A parser of the options of all commands, and of any number of positional words.
 fn parser_of_words<'a>(alloc: Global) -> Result<Parser<'a>, NoMemory>
     ensures { IfOk result (λ made. app_of made ≡ words_app) }
 {
-    let parser = Parser::new(alloc, "words")
-        .no_binary_name(true)
-        .disable_help_flag(true)
-        .disable_version_flag(true);
-    let parser = with_option(alloc, parser, "id")?;
-    let parser = with_option(alloc, parser, "gpu")?;
-    let parser = with_option(alloc, parser, "flags")?;
-    let parser = with_option(alloc, parser, "root")?;
-    let parser = with_option(alloc, parser, "layout")?;
-    let parser = with_option(alloc, parser, "limit")?;
-    let parser = with_option(alloc, parser, "meta")?;
-    let parser = with_option(alloc, parser, "mode")?;
+    let parser = with_options(alloc, bare_parser(alloc), &OPTIONS)?;
     let places = Arg::new(alloc, PLACES).action(ArgAction::Append);
     Ok(parser.arg(places)?)
 }
@@ -130,6 +151,22 @@ fn places_in(alloc: Global, found: &ArgMatches) -> Result<TextList, NoMemory>
     Ok(places)
 }
 
+/// The command with the options and the positional words that were found.
+fn command_in(alloc: Global, word: Word, found: &ArgMatches) -> Result<Command, NoMemory>
+    requires { has_no_repeat (options_in (rows_of (found_of found.now))) ≡ true }
+    ensures word { IfOk result (λ command. command.word ≡ word) }
+    ensures options { IfOk result (λ command. command.options ≡ options_in (rows_of (found_of found.now))) }
+    ensures places { IfOk result (λ command. command.places ≡ places_in (rows_of (found_of found.now))) }
+{
+    let options = options_in(alloc, found)?;
+    let places = places_in(alloc, found)?;
+    Ok(Command {
+        word,
+        options,
+        places,
+    })
+}
+
 /// The command with the options and the positional words that stand behind its word. `Usage` exactly where these
 /// can't be told apart, or an option is no command's, has no value or stands twice.
 pub fn parsed(alloc: Global, word: Word, words: &[String]) -> Result<Command, WordsRefusal>
@@ -141,9 +178,5 @@ pub fn parsed(alloc: Global, word: Word, words: &[String]) -> Result<Command, Wo
         return Err(WordsRefusal::Usage);
     }
     let found = matches_of(alloc, words)?;
-    Ok(Command {
-        word,
-        options: options_in(alloc, &found)?,
-        places: places_in(alloc, &found)?,
-    })
+    Ok(command_in(alloc, word, &found)?)
 }

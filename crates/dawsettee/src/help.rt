@@ -7,7 +7,7 @@ Usage:
   dawsettee put [OPTIONS] KEY <BLOB      keeps a blob under a key: prints stored or kept
   dawsettee get [OPTIONS] KEY >BLOB      writes the blob of a key
   dawsettee settings                     prints the settings, one in a line
-  dawsettee --help | --version
+  dawsettee --help | --version           prints this text, or the version (-h, help, -V)
 
 KEY is 40 hexadecimal digits of either case. A blob and a content have at most
 16777216 bytes. An option is --NAME=VALUE or --NAME VALUE, and stands once; behind
@@ -22,7 +22,8 @@ Options of put and get:
   --layout=LAYOUT  folder, database or foz (as the variables say); folder alone is
                    built so far
 Options of put:
-  --limit=BYTES    how large the store may grow, at most 2^40 (as the variables say)
+  --limit=BYTES    how large the store may grow, at most 2^40 (as the variables say);
+                   it isn't looked at yet
   --meta=KEYS      the keys of the blob's sources, 1 to 64 with commas between (none)
 
 Variables:
@@ -32,7 +33,8 @@ Variables:
   MESA_SHADER_CACHE_DIR          the folder that the store's own stands in
   XDG_CACHE_HOME                 the same, where the first isn't set
   HOME                           the same is its .cache, where neither is set
-  MESA_SHADER_CACHE_MAX_SIZE     digits and K, M or G, or digits alone for G (1G)
+  MESA_SHADER_CACHE_MAX_SIZE     digits and K, M or G, or digits alone for G (1G); it
+                                 isn't looked at yet
   MESA_DISK_CACHE_READ_ONLY_FOZ_DBS
                                  at most 8 names of read-only databases, with commas
                                  between; they aren't asked yet

@@ -73,35 +73,44 @@ fn show(rt: &HostRuntime, text: &str) -> Status {
     }
 }
 
-/// The text that the words ask for, where the only one is `--help` or `--version`.
+/// The text that the words ask for, where the only one asks for help or for the version.
 fn text_for(words: &[String]) -> Option<&'static str> {
-    match words {
-        [word] if word.as_str() == "--help" => Some(HELP),
-        [word] if word.as_str() == "--version" => Some(VERSION),
+    let [word] = words else {
+        return None;
+    };
+    match word.as_str() {
+        "--help" | "-h" | "help" => Some(HELP),
+        "--version" | "-V" => Some(VERSION),
         _ => None,
     }
 }
 
-/// The status that the words of the command line lead to.
+/// The status that the words of the command line lead to. Help and the version are shown before anything is
+/// opened.
 fn status_of(rt: &HostRuntime) -> Status {
-    let Ok(_held) = streams::hold(rt) else {
-        return Status::FilesFault;
-    };
     let words = match words_of(rt) {
         Ok(words) => words,
         Err(status) => return status,
     };
-    if let Some(text) = text_for(&words) {
-        return show(rt, text);
+    match text_for(&words) {
+        Some(text) => show(rt, text),
+        None => status_of_command(rt, &words),
     }
+}
+
+/// The status that a command leads to, while the standard streams that are closed are held.
+fn status_of_command(rt: &HostRuntime, words: &[String]) -> Status {
+    let Ok(_held) = streams::hold(rt) else {
+        return Status::FilesFault;
+    };
     let Ok(vars) = variables_of(rt) else {
         return Status::NoMemory;
     };
-    let paths = match plan_of(rt.alloc(), &words, &vars) {
+    let paths = match plan_of(rt.alloc(), words, &vars) {
         Ok(paths) => paths,
         Err(status) => return status,
     };
-    match serve(rt, &words, &vars, paths) {
+    match serve(rt, words, &vars, paths) {
         Ok(status) => status,
         Err(_) => Status::NoMemory,
     }

@@ -1,4 +1,4 @@
-ghost use Rattle.std.specs.Prelude.{◌≡◌, ◌↔◌, ◌⊎◌, ◌≤◌, ◌-◌, ◌^◌, ◌∷◌, [], length, min, true, false, Ok, Err, IsOk, IfOk, IfErr, Some, IfSome, unwrap_or, IsTrue};
+ghost use Rattle.std.specs.Prelude.{◌≡◌, ◌↔◌, ◌⊎◌, ◌≤◌, ◌-◌, ◌^◌, ◌∷◌, [], length, min, true, false, Ok, Err, IsOk, IfOk, OnOk, IfErr, Some, IfSome, unwrap_or, IsTrue};
 ghost use Rattle.std.specs.Fs.{new_options, with_read, with_write, with_create};
 ghost use Rattle.std.specs.IoError.{error_kind};
 ghost use Rattle.std.specs.List.{All};
@@ -19,7 +19,7 @@ use crate::fault::Fault;
 use cache_types::{Bytes, Key, KeyList, MAX_ITEM};
 use hex::FromHex;
 use std::alloc::Global;
-use std::fs::{File, OpenOptions, TryLockError};
+use std::fs::{DirEntry, File, OpenOptions, ReadDir, TryLockError};
 use std::io::ErrorKind;
 use std::os::unix::fs::FileExt;
 use std::path::Path;
@@ -259,27 +259,70 @@ pub fn list<R: RealFiles>(alloc: Global, rt: &R, folder: &str, byte: u8) -> Resu
     ensures folder { IfOk result (All (StartsWith byte)) }
 {
     let mut keys = Vec::new(alloc);
-    let entries = match fs::read_dir(&(rt, alloc), folder) {
-        Ok(entries) => entries,
-        Err(error) => {
-            pass_missing(error)?;
-            return Ok(KeyList::new(alloc));
-        }
-    };
-    for entry in entries {
-        match entry {
-            Ok(entry) => {
-                if let Some(key) = key_of_entry(byte, entry.file_name()) {
-                    keys.push(key)?;
-                }
-            }
-            // A name that isn't UTF-8.
-            Err(error) if error.kind() == ErrorKind::InvalidFilename => {}
-            Err(error) => return Err(Fault::from(error)),
-        }
-    }
+    add_keys(alloc, rt, folder, byte, &mut keys)?;
     keys.sort_unstable();
     Ok(KeyList::from_vec(keys))
+}
+
+/// Adds the keys of the entries in a folder, in the system's order.
+fn add_keys<R: RealFiles>(
+    alloc: Global,
+    rt: &R,
+    folder: &str,
+    byte: u8,
+    keys: &mut Vec<Key>,
+) -> Result<(), Fault>
+    requires { All (StartsWith byte) keys.old.items }
+    ensures { OnOk result (All (StartsWith byte) keys.new.items) }
+{
+    match fs::read_dir(&(rt, alloc), folder) {
+        Ok(entries) => add_entries(byte, entries, keys),
+        Err(error) => pass_missing(error),
+    }
+}
+
+/// Adds the keys of entries.
+fn add_entries<R: RealFiles>(
+    byte: u8,
+    entries: ReadDir<(&R, Global)>,
+    keys: &mut Vec<Key>,
+) -> Result<(), Fault>
+    requires { All (StartsWith byte) keys.old.items }
+    ensures { OnOk result (All (StartsWith byte) keys.new.items) }
+{
+    for entry in entries {
+        add_entry(byte, entry, keys)?;
+    }
+    Ok(())
+}
+
+/// Adds the key of an entry. A name that isn't UTF-8 is none; another error is a fault.
+fn add_entry<R: RealFiles>(
+    byte: u8,
+    entry: io::Result<DirEntry<(&R, Global)>>,
+    keys: &mut Vec<Key>,
+) -> Result<(), Fault>
+    requires { All (StartsWith byte) keys.old.items }
+    ensures { OnOk result (All (StartsWith byte) keys.new.items) }
+{
+    match entry {
+        Ok(entry) => add_key(byte, entry.file_name(), keys),
+        Err(error) => match error.kind() {
+            ErrorKind::InvalidFilename => Ok(()),
+            _ => Err(Fault::from(error)),
+        },
+    }
+}
+
+/// Adds the key that the name of an entry's file spells, where it spells one.
+fn add_key(byte: u8, name: &str, keys: &mut Vec<Key>) -> Result<(), Fault>
+    requires { All (StartsWith byte) keys.old.items }
+    ensures { OnOk result (All (StartsWith byte) keys.new.items) }
+{
+    if let Some(key) = key_of_entry(byte, name) {
+        keys.push(key)?;
+    }
+    Ok(())
 }
 
 /// The key of an entry's file, by its folder's byte and the 38 digits that are its name. Digits in upper case

@@ -1,4 +1,3 @@
 pub mod Given
 pub mod Machine
-pub mod Places
 pub mod Requests

@@ -1,9 +1,20 @@
 ghost use Rattle.std.specs.Prelude.{◌≡◌, ◌++◌, IfOk, OnOk, string_bytes};
-ghost use Rattle.report_text.specs.Lines.{key_lines, row_line, row_lines};
+ghost use Rattle.report_text.specs.Lines.{key_lines, key_part, row_line, row_lines};
 
 use cache_key::key_text;
 use cache_types::{Key, NoMemory, Row};
 use std::alloc::Global;
+
+/// Adds a key, or a dash where there is none.
+fn push_key(alloc: Global, text: &mut String, key: &Option<Key>) -> Result<(), NoMemory>
+    ensures { OnOk result (string_bytes text.new ≡ string_bytes text.old ++ key_part key.now) }
+{
+    match key {
+        Some(key) => text.push_str(key_text(alloc, key)?.as_str())?,
+        None => text.push_str("-")?,
+    }
+    Ok(())
+}
 
 /// Adds a line of `verify`, without its newline.
 fn push_row(alloc: Global, text: &mut String, row: &Row) -> Result<(), NoMemory>
@@ -19,10 +30,7 @@ fn push_row(alloc: Global, text: &mut String, row: &Row) -> Result<(), NoMemory>
             if let Some(place) = place {
                 write!(text, "{place} ")?;
             }
-            match key {
-                Some(key) => text.push_str(key_text(alloc, key)?.as_str())?,
-                None => text.push_str("-")?,
-            }
+            push_key(alloc, text, key)?;
             write!(text, " {}", finding.as_str())?;
         }
     }

@@ -1,5 +1,5 @@
-ghost use Rattle.std.specs.Prelude.{◌≡◌, ◌++◌, IfOk, OnOk, string_bytes};
-ghost use Rattle.report_text.specs.SettingsLines.{layout_word, names_or_dash, path_or_dash, settings_lines};
+ghost use Rattle.std.specs.Prelude.{◌≡◌, ◌++◌, IfOk, OnOk, codes, decimal, string_bytes};
+ghost use Rattle.report_text.specs.SettingsLines.{layout_word, line_of, names_or_dash, path_or_dash, settings_lines};
 
 use cache_types::{Bytes, Layout, NoMemory, Text};
 use settings_read::CacheSettings;
@@ -41,6 +41,26 @@ fn path_or_dash(path: &Option<Text>) -> &str
     }
 }
 
+/// Adds the lines of the root, the layout and the size.
+fn push_store(text: &mut String, settings: &CacheSettings) -> Result<(), NoMemory>
+    ensures { OnOk result (string_bytes text.new ≡ string_bytes text.old ++ (line_of (codes "root") settings.now.root ++ (line_of (codes "layout") (layout_word settings.now.layout) ++ line_of (codes "max") (decimal settings.now.max)))) }
+{
+    writeln!(text, "root {}", settings.root.as_str())?;
+    writeln!(text, "layout {}", layout_word(settings.layout))?;
+    writeln!(text, "max {}", settings.max)?;
+    Ok(())
+}
+
+/// Adds the lines of the read-only databases.
+fn push_read_only(text: &mut String, settings: &CacheSettings) -> Result<(), NoMemory>
+    ensures { OnOk result (string_bytes text.new ≡ string_bytes text.old ++ (line_of (codes "read-only") (names_or_dash settings.now.ro) ++ line_of (codes "list") (path_or_dash settings.now.list))) }
+{
+    text.push_str("read-only ")?;
+    push_names(text, settings.ro.as_slice())?;
+    writeln!(text, "\nlist {}", path_or_dash(&settings.list))?;
+    Ok(())
+}
+
 /// What the command `settings` prints: five lines, each of a word, a space and a setting. They are `root` with
 /// the folder, `layout` with `folder`, `database` or `foz`, `max` with the bytes in decimal digits, `read-only`
 /// with the names of read-only databases and commas between them, and `list` with the path of the file that
@@ -49,11 +69,7 @@ pub fn settings_text(alloc: Global, settings: &CacheSettings) -> Result<Bytes, N
     ensures { IfOk result (λ bytes. bytes ≡ settings_lines settings.now) }
 {
     let mut text = String::new(alloc);
-    writeln!(text, "root {}", settings.root.as_str())?;
-    writeln!(text, "layout {}", layout_word(settings.layout))?;
-    writeln!(text, "max {}", settings.max)?;
-    text.push_str("read-only ")?;
-    push_names(&mut text, settings.ro.as_slice())?;
-    writeln!(text, "\nlist {}", path_or_dash(&settings.list))?;
+    push_store(&mut text, settings)?;
+    push_read_only(&mut text, settings)?;
     Ok(Bytes::from_vec(text.into_bytes()))
 }

@@ -28,9 +28,9 @@ use Rattle.folder_rules.proofs.Placing.{kept_by_each}
 use Rattle.folder_changes.proofs.Ordering.{stays_in_order}
 use Rattle.folder_store.proofs.Keeping.{CanFollow, follow}
 use Rattle.op_machine.specs.declared.op.Op.{Op}
-use Rattle.op_machine.specs.Places.{Where, Leads}
+use Rattle.seat_order.specs.Places.{Where, Leads}
 use Rattle.world_tables.proofs.Finds.{same_seat-true}
-use Rattle.op_machine.proofs.Orderly.{IsOrderly, AreMine, OnlyMoves}
+use Rattle.seat_order.proofs.Orderly.{IsOrderly, AreMine, OnlyMoves}
 use Rattle.seat_order.specs.Apart.{GoesOn, IsAt, IsOrderlyBut}
 use Rattle.seat_order.specs.Laws.{AllOperate}
 use Rattle.seat_order.specs.Operating.{Operates}

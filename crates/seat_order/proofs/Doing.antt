@@ -25,13 +25,13 @@ use Rattle.files_api.specs.Drive.{Allows, IsWithin, IsEndOf, items_of_all}
 use Rattle.folder_rules.proofs.Courses.{outside_then, outside_end}
 use Rattle.op_machine.specs.declared.op.Op.{Op}
 use Rattle.op_machine.specs.Machine.{asks, asked, Fed, slots, hurt, allowed}
-use Rattle.op_machine.specs.Places.{Where, Leads}
 use Rattle.op_machine.specs.Requests.{IsOpOf}
+use Rattle.seat_order.specs.Places.{Where, Leads}
 use Rattle.seat_order.specs.Doing.{HasCome, IsAmid, HasDone}
 use Rattle.seat_order.specs.Operating.{AreFew, EndsFor, AreFewAfter, FitsAfter}
 use Rattle.seat_order.proofs.Insides.{IsOfCall, IsOneOfCall, few_in, in_then, other_in, news_in}
 use Rattle.seat_order.proofs.Giving.{come_ends, none_ends, told_ends}
-use Rattle.op_machine.proofs.Making.{none_before, more_made, made_all, answers_so}
+use Rattle.seat_order.proofs.Making.{none_before, more_made, made_all, answers_so}
 use Rattle.seat_order.proofs.Mine.{step_mine}
 use Rattle.seat_order.proofs.Readying.{leads_more}
 use Rattle.seat_order.proofs.Running.{runs_more, come_few, amid_few}

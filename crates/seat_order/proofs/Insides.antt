@@ -12,7 +12,7 @@ use Rattle.folder_rules.specs.Operations.{IsInside, GoesOn, is_bound}
 use Rattle.folder_rules.proofs.Courses.{goes_front, inside_then, own_other, own_mine, nothing_made}
 use Rattle.folder_rules.proofs.Histories.{Ends, last_of}
 use Rattle.folder_rules.proofs.Inside.{one_inside}
-use Rattle.op_machine.proofs.Orderly.{AreMine}
+use Rattle.seat_order.proofs.Orderly.{AreMine}
 use Rattle.seat_order.specs.Doing.{IsInOne}
 use Rattle.seat_order.specs.Operating.{AreFew, IsInNone, AreFewAfter}
 

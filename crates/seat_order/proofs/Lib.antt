@@ -1,3 +1,8 @@
+pub mod Making
+pub mod Slots
+pub mod Starting
+pub mod Standing
+pub mod Orderly
 pub mod Tallying
 pub mod Running
 pub mod Giving

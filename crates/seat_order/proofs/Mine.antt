@@ -16,7 +16,7 @@ use Rattle.file_model.specs.declared.step.Progress.{Progress}
 use Rattle.file_model.specs.declared.step.Progress.TheVariants as progresses
 use Rattle.file_model.specs.Steps.{byte_item, done_items, step_items}
 use Rattle.world_tables.proofs.Finds.{same_seat-true}
-use Rattle.op_machine.proofs.Orderly.{AreMine}
+use Rattle.seat_order.proofs.Orderly.{AreMine}
 
 -- an item of a seat is no other's
 pub not_others : (me who : Who) (x : LogItem) → is_own me x ≡ true → same_seat me who ≡ false → is_own who x ≡ false

@@ -22,9 +22,10 @@ use Rattle.folder_rules.specs.Rules.{KeepsRules}
 use Rattle.folder_store.proofs.Keeping.{CanFollow}
 use Rattle.op_machine.specs.declared.op.Op.{Op}
 use Rattle.op_machine.specs.Machine.{asks, asked}
-use Rattle.op_machine.specs.Places.{Where, Leads}
 use Rattle.op_machine.specs.Requests.{IsBuilt, IsOpOf}
-use Rattle.op_machine.proofs.Standing as standing
+use Rattle.seat_order.specs.Places.{Where, Leads}
+use Rattle.seat_order.specs.Standing.{Stands}
+use Rattle.seat_order.proofs.Standing as standing
 use Rattle.seat_order.specs.Apart.{IsAt}
 use Rattle.seat_order.specs.Doing.{HasDone}
 use Rattle.seat_order.specs.Operating.{FitsAfter, Operates}
@@ -64,7 +65,7 @@ module _ (me : Who) (log : List LogItem) where
   pub at_begins : (request : Request) → IsAt me Where.Outside log → CanFollow (past log) (items.Begin me request) → LeadsTo (items.Begin me request ∷ []) (Where.Begun request)
   at_begins request s legal =
       let x : LogItem = items.Begin me request in
-      let b : (keeps : Cooperating log) → KeepsRules (past log) x × standing.Stands me (Where.Begun request) (with_item (past log) x) = λ keeps. standing.begins me request (past log) (s.stand keeps) legal in
+      let b : (keeps : Cooperating log) → KeepsRules (past log) x × Stands me (Where.Begun request) (with_item (past log) x) = λ keeps. standing.begins me request (past log) (s.stand keeps) legal in
       let d : HasDone me (Where.Begun request) (log ++ x ∷ []) = doings.done_begins me request log in
       (λ keeps. ((b keeps).0, tt), record { ready = readying.ready_begins me request (past log) s.ready; doing = d; stand = λ keeps. (b (cooperating_before log (x ∷ []) keeps)).1 }, then_operates x (Where.Begun request) d s.doing)
 
@@ -100,7 +101,7 @@ module _ (me : Who) (log : List LogItem) where
   pub at_ends : (given answer : Answer) → IsAt me (Where.Ending given) log → IsEndOf given answer → CanFollow (past log) (items.End me answer) → LeadsTo (items.End me answer ∷ []) Where.Outside
   at_ends given answer s is legal =
       let x : LogItem = items.End me answer in
-      let b : (keeps : Cooperating log) → KeepsRules (past log) x × standing.Stands me Where.Outside (with_item (past log) x) = λ keeps. standing.ends me given answer (past log) (s.stand keeps) is legal in
+      let b : (keeps : Cooperating log) → KeepsRules (past log) x × Stands me Where.Outside (with_item (past log) x) = λ keeps. standing.ends me given answer (past log) (s.stand keeps) is legal in
       let d : HasDone me Where.Outside (log ++ x ∷ []) = doings.done_ends me answer log in
       (λ keeps. ((b keeps).0, tt), record { ready = readying.ready_ends me given answer (past log) s.ready; doing = d; stand = λ keeps. (b (cooperating_before log (x ∷ []) keeps)).1 }, then_operates x Where.Outside d (doings.end_fits me given answer log s.doing is))
 
@@ -108,6 +109,6 @@ module _ (me : Who) (log : List LogItem) where
   pub at_takes : (ticket : Ticket) → IsAt me Where.Outside log → CanFollow (past log) (items.Taken me ticket) → LeadsTo (items.Taken me ticket ∷ []) Where.Outside
   at_takes ticket s legal =
       let x : LogItem = items.Taken me ticket in
-      let b : (keeps : Cooperating log) → KeepsRules (past log) x × standing.Stands me Where.Outside (with_item (past log) x) = λ keeps. standing.takes me ticket (past log) (s.stand keeps) legal in
+      let b : (keeps : Cooperating log) → KeepsRules (past log) x × Stands me Where.Outside (with_item (past log) x) = λ keeps. standing.takes me ticket (past log) (s.stand keeps) legal in
       let d : HasDone me Where.Outside (log ++ x ∷ []) = doings.done_takes me ticket log s.doing in
       (λ keeps. ((b keeps).0, tt), record { ready = readying.ready_takes me ticket (past log) s.ready; doing = d; stand = λ keeps. (b (cooperating_before log (x ∷ []) keeps)).1 }, then_operates x Where.Outside d s.doing)

@@ -23,12 +23,13 @@ use Rattle.folder_rules.specs.Changes.{with_item}
 use Rattle.folder_rules.specs.Places.{past}
 use Rattle.op_machine.specs.declared.op.Op.{Op}
 use Rattle.op_machine.specs.Machine.{asks, asked, Fed, slots, hurt}
-use Rattle.op_machine.specs.Places.{Where, Leads}
 use Rattle.op_machine.specs.Requests.{IsOpOf}
-use Rattle.op_machine.proofs.Starting.{starts_empty}
-use Rattle.op_machine.proofs.Slots.{HasThose, other_keeps, none_other, none_still, byte_keeps, begun_has, machine_may, machine_done, machine_goes}
+use Rattle.seat_order.specs.Places.{Where, Leads}
+use Rattle.seat_order.proofs.Starting.{starts_empty}
+use Rattle.seat_order.specs.Slots.{HasThose}
+use Rattle.seat_order.proofs.Slots.{other_keeps, none_other, none_still, byte_keeps, begun_has, machine_may, machine_done, machine_goes}
 use Rattle.seat_order.specs.Ready.{IsCalling, IsReady}
-use Rattle.op_machine.proofs.Making.{place_at_first, answers_so}
+use Rattle.seat_order.proofs.Making.{place_at_first, answers_so}
 
 -- a step after which the call goes on leads to the call's next item
 pub leads_more : (n : Op) (call : Call) (done : ℕ) (place : Where) → Leads n call done progresses.More place → Where.Within n call (done + 1) ≡ place

@@ -5,8 +5,8 @@ use Rattle.file_log.specs.declared.item.LogItem.{LogItem}
 use Rattle.file_log.specs.State.{state_of}
 use Rattle.folder_rules.specs.Places.{past, Cooperating, KeepsBy}
 use Rattle.folder_changes.specs.Order.{InOrder}
-use Rattle.op_machine.specs.Places.{Where}
-use Rattle.op_machine.proofs.Standing.{Stands}
+use Rattle.seat_order.specs.Places.{Where}
+use Rattle.seat_order.specs.Standing.{Stands}
 use Rattle.seat_order.specs.Ready.{IsReady}
 use Rattle.seat_order.specs.Operating.{Operates}
 use Rattle.seat_order.specs.Doing.{HasDone}

@@ -12,8 +12,8 @@ use Rattle.files_api.specs.Drive.{items_of_all}
 use Rattle.folder_rules.specs.Operations.{IsInside}
 use Rattle.op_machine.specs.declared.op.Op.{Op}
 use Rattle.op_machine.specs.Machine.{asks, asked, Fed}
-use Rattle.op_machine.specs.Places.{Where}
 use Rattle.op_machine.specs.Requests.{IsOpOf}
+use Rattle.seat_order.specs.Places.{Where}
 use Rattle.seat_order.specs.Operating.{AreFew, EndsFor, IsInNone}
 
 -- the seat is in an operation, and its request and the seat's own items since its Begin are so

@@ -1,3 +1,6 @@
+pub mod Places
+pub mod Slots
+pub mod Standing
 pub mod Ready
 pub mod Operating
 pub mod Doing

@@ -7,8 +7,8 @@ use Rattle.file_model.specs.Steps.{IsPlace}
 use Rattle.files_api.specs.declared.machine.Step.TheVariants.{Ask}
 use Rattle.op_machine.specs.declared.op.Op.{Op}
 use Rattle.op_machine.specs.Machine.{asks, asked}
-use Rattle.op_machine.specs.Places.{Where}
-use Rattle.op_machine.proofs.Slots.{HasSlots, HasNone, HasThose}
+use Rattle.seat_order.specs.Places.{Where}
+use Rattle.seat_order.specs.Slots.{HasSlots, HasNone, HasThose}
 
 module _ (me : Who) where
   -- its machine asked for the call, and the item that comes next is one of the call's

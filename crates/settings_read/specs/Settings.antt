@@ -1,8 +1,8 @@
 -- The settings that variables and words give, and why they give none.
-use Rattle.std.specs.Prelude.{◌≡◌, ◌≤◌, ◌<◌, ◌⊎◌, ℕ, true, false, [], length, None, IsSome, Result, Err, unwrap_or}
+use Rattle.std.specs.Prelude.{◌≡◌, ◌≤◌, ◌<◌, ◌⊎◌, ℕ, true, false, List, [], length, None, IsSome, Result, Err, unwrap_or}
 use Rattle.settings_read.specs.declared.cache_settings.CacheSettings.{CacheSettings}
 use Rattle.settings_read.specs.declared.cache_settings.SettingsRefusal.{SettingsRefusal}
-use Rattle.settings_read.specs.declared.cache_settings.SettingsRefusal.TheVariants.{NoMemory}
+use Rattle.settings_read.specs.declared.cache_settings.SettingsRefusal.TheVariants.{NoMemory, TooManyReadOnly}
 use Rattle.settings_read.specs.declared.overrides.Overrides.{Overrides}
 use Rattle.settings_read.specs.Variables.{Environment, is_true, disable}
 use Rattle.settings_read.specs.Overridden.{root_of, layout_of, max_of, names_given, list_given}
@@ -30,6 +30,10 @@ pub record HasTooMany (vars : Environment) (over : Overrides) (n : ℕ) : Type 0
 -- this refusal was given, or want of memory stands in its place
 abbrev pub Refuses : {T : Type 0} → Result T SettingsRefusal → SettingsRefusal → Type 0
 Refuses result refusal = (result ≡ Err refusal) ⊎ (result ≡ Err NoMemory)
+
+-- memory ran out, or these names are too many
+abbrev pub IsForNames : List (List ℕ) → SettingsRefusal → Type 0
+IsForNames names refusal = (refusal ≡ NoMemory) ⊎ ((refusal ≡ TooManyReadOnly (length names)) × (8 < length names))
 
 -- nothing is to be refused: it is on and has a root, and at most 8 names are given
 pub record HasSettings (vars : Environment) (over : Overrides) : Type 0 where

@@ -1,8 +1,8 @@
-ghost use Rattle.std.specs.Prelude.{◌≡◌, ◌↔◌, ℕ, IfOk, Ok, Err, None};
+ghost use Rattle.std.specs.Prelude.{◌≡◌, ◌≤◌, ◌↔◌, ℕ, length, IfOk, IfErr, Ok, Err, None};
 ghost use Rattle.settings_read.specs.Variables.{texts_of};
 ghost use Rattle.settings_read.specs.Places.{base_of, root_from};
-ghost use Rattle.settings_read.specs.Overridden.{nothing_over, list_given};
-ghost use Rattle.settings_read.specs.Settings.{IsOff, HasNoRoot, HasTooMany, Refuses, AreGiven};
+ghost use Rattle.settings_read.specs.Overridden.{nothing_over, list_given, names_given};
+ghost use Rattle.settings_read.specs.Settings.{IsOff, HasNoRoot, HasTooMany, IsForNames, Refuses, AreGiven};
 
 use crate::names::{MAX_READ_ONLY, names_of_variable};
 use crate::overrides::Overrides;
@@ -13,7 +13,7 @@ use cache_types::{Layout, NoMemory, Text, TextList};
 use std::alloc::Global;
 
 /// Where a cache lies, and how it is kept.
-#[derive(Debug, Drop)]
+#[derive(Drop)]
 pub struct CacheSettings {
     /// The root folder of its store.
     pub root: Text,
@@ -81,6 +81,42 @@ fn root_of(
     }
 }
 
+/// The names of the read-only databases, at most [`MAX_READ_ONLY`].
+fn few_names(alloc: Global, vars: &[(String, String)]) -> Result<TextList, SettingsRefusal>
+    ensures few { IfOk result (λ ro. (ro ≡ names_given (texts_of vars.now)) × (length ro ≤ 8)) }
+    ensures many { IfErr result (IsForNames (names_given (texts_of vars.now))) }
+{
+    let ro = names_of_variable(alloc, value_of(vars, READ_ONLY).unwrap_or(""))?;
+    let named = ro.as_slice().len();
+    if named > MAX_READ_ONLY {
+        return Err(SettingsRefusal::TooManyReadOnly(named as u64));
+    }
+    Ok(ro)
+}
+
+/// The settings of this root, layout and size.
+fn settings_in(
+    alloc: Global,
+    vars: &[(String, String)],
+    root: Text,
+    layout: Layout,
+    max: u64,
+) -> Result<CacheSettings, SettingsRefusal>
+    ensures few { IfOk result (λ settings. length (names_given (texts_of vars.now)) ≤ 8) }
+    ensures given { IfOk result (λ settings. settings ≡ record { root = root; layout = layout; max = max; ro = names_given (texts_of vars.now); list = list_given (texts_of vars.now) }) }
+    ensures many { IfErr result (IsForNames (names_given (texts_of vars.now))) }
+{
+    let ro = few_names(alloc, vars)?;
+    let list = list_of(alloc, vars)?;
+    Ok(CacheSettings {
+        root,
+        layout,
+        max,
+        ro,
+        list,
+    })
+}
+
 /// The settings that the variables give, where a command's words say nothing in their place. Of a name the
 /// first pair counts, and an empty value counts as unset; variables that [`VARIABLES`](crate::VARIABLES)
 /// doesn't name change nothing.
@@ -132,20 +168,10 @@ pub fn settings_over(
         return Err(SettingsRefusal::Off);
     }
     let layout = over.layout.unwrap_or(layout_of_variables(vars));
-    let Some(root) = root_of(alloc, vars, over.root, layout)? else {
-        return Err(SettingsRefusal::NoRoot);
-    };
-    let ro = names_of_variable(alloc, value_of(vars, READ_ONLY).unwrap_or(""))?;
-    let named = ro.as_slice().len();
-    if named > MAX_READ_ONLY {
-        return Err(SettingsRefusal::TooManyReadOnly(named as u64));
-    }
     let spelled = size_of_text(value_of(vars, MAX_SIZE).unwrap_or(""));
-    Ok(CacheSettings {
-        root,
-        layout,
-        max: over.limit.unwrap_or(spelled),
-        ro,
-        list: list_of(alloc, vars)?,
-    })
+    let max = over.limit.unwrap_or(spelled);
+    match root_of(alloc, vars, over.root, layout)? {
+        Some(root) => settings_in(alloc, vars, root, layout, max),
+        None => Err(SettingsRefusal::NoRoot),
+    }
 }

@@ -4,7 +4,7 @@ ghost use Rattle.settings_read.specs.Overridden.{nothing_over};
 use cache_types::{Layout, Text};
 
 /// What the words of a command say in place of the variables. What they don't say, the variables do.
-#[derive(Debug, Drop)]
+#[derive(Drop)]
 pub struct Overrides {
     /// The root folder itself, as it is: no folder of the layout's is added.
     pub root: Option<Text>,

@@ -9,7 +9,7 @@ use cache_types::{Layout, NoMemory, Text};
 use std::alloc::Global;
 
 /// The folder that the cache's own folder stands in.
-#[derive(Clone, Copy, Debug)]
+#[derive(Clone, Copy)]
 pub struct Base<'a> {
     /// A folder that a variable names.
     pub folder: &'a str,

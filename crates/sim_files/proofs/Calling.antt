@@ -24,11 +24,11 @@ use Rattle.file_model.specs.declared.step.Progress.TheVariants as progresses
 use Rattle.file_model.specs.Held.{Held}
 use Rattle.file_model.specs.Seeing.{seen_of}
 use Rattle.file_model.specs.Steps.{byte_item, done_items, step_items, is_inside, IsEarlier, IsPlace, Stepped}
-use Rattle.op_machine.proofs.Orderly.{AreMine}
+use Rattle.seat_order.proofs.Orderly.{AreMine}
 use Rattle.seat_order.proofs.Mine.{step_mine}
 use Rattle.sim_files.specs.Seats.{GoesOn, Tells, bytes_in}
 use Rattle.sim_world.specs.declared.stage.Stage.{Stage}
-use Rattle.op_machine.proofs.Making.{none_before, place_at_first, place_then, more_made, made_all, answers_so}
+use Rattle.seat_order.proofs.Making.{none_before, place_at_first, place_then, more_made, made_all, answers_so}
 use Rattle.sim_files.proofs.Seeing.{seen_by_step, others_leave, step_leaves}
 
 -- ---- what is seen

@@ -27,7 +27,7 @@ use Rattle.files_api.specs.Drive.{Allows, IsWithin}
 use Rattle.folder_rules.specs.Places.{past}
 use Rattle.op_machine.specs.declared.op.Op.{Op}
 use Rattle.op_machine.specs.Machine.{slots, hurt, allowed}
-use Rattle.op_machine.specs.Places.{Where}
+use Rattle.seat_order.specs.Places.{Where}
 use Rattle.seat_order.specs.Apart.{IsAt}
 use Rattle.seat_order.proofs.Readying.{ready_inside}
 use Rattle.world_tables.proofs.Finds.{same_seat-true}

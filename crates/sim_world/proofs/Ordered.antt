@@ -15,8 +15,8 @@ use Rattle.files_api.specs.declared.machine.Step.TheVariants.{Ask, Done}
 use Rattle.folder_rules.specs.Places.{past, Cooperating}
 use Rattle.op_machine.specs.declared.op.Op.{Op}
 use Rattle.op_machine.specs.Machine.{asks, asked}
-use Rattle.op_machine.specs.Places.{Where}
-use Rattle.op_machine.proofs.Orderly.{OnlyMoves}
+use Rattle.seat_order.specs.Places.{Where}
+use Rattle.seat_order.proofs.Orderly.{OnlyMoves}
 use Rattle.seat_order.specs.Apart.{IsAt, IsOrderlyBut}
 use Rattle.seat_order.specs.Operating.{Operates}
 use Rattle.seat_order.specs.Ready.{IsReady}

@@ -16,7 +16,7 @@ use Rattle.file_model.specs.Steps.{step_items, is_inside}
 use Rattle.files_api.specs.declared.machine.Step.{Step}
 use Rattle.files_api.specs.declared.machine.Step.TheVariants.{Ask, Done}
 use Rattle.op_machine.specs.declared.op.Op.{Op}
-use Rattle.op_machine.proofs.Orderly.{AreMine}
+use Rattle.seat_order.proofs.Orderly.{AreMine}
 use Rattle.seat_order.proofs.Mine.{not_others, step_mine}
 use Rattle.sim_world.specs.declared.operation.Moved.{Moved}
 use Rattle.sim_world.specs.declared.seats.Task.{Task}

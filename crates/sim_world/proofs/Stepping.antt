@@ -25,8 +25,8 @@ use Rattle.file_log.specs.Exchange.{items_refused}
 use Rattle.folder_rules.specs.Places.{past}
 use Rattle.op_machine.specs.declared.op.Op.{Op}
 use Rattle.op_machine.specs.Machine.{asks, asked}
-use Rattle.op_machine.specs.Places.{Where, Leads}
-use Rattle.op_machine.proofs.Orderly.{OnlyMoves}
+use Rattle.seat_order.specs.Places.{Where, Leads}
+use Rattle.seat_order.proofs.Orderly.{OnlyMoves}
 use Rattle.seat_order.specs.Apart.{IsAt, IsOrderlyBut}
 use Rattle.seat_order.proofs.Moving.{at_begins, at_machine, at_ends}
 use Rattle.seat_order.proofs.Coming.{own_items_pass, stepped_passes, seat_moves, stopped_move}

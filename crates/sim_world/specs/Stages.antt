@@ -11,8 +11,8 @@ use Rattle.file_model.specs.Held.{Held}
 use Rattle.files_api.specs.declared.machine.Step.{Step}
 use Rattle.files_api.specs.declared.machine.Step.TheVariants.{Ask, Done}
 use Rattle.op_machine.specs.declared.op.Op.{Op}
-use Rattle.op_machine.specs.Places.{Where, Outside, Within, Ending}
 use Rattle.op_machine.specs.Requests.{IsBuilt}
+use Rattle.seat_order.specs.Places.{Where, Outside, Within, Ending}
 use Rattle.seat_order.specs.Apart.{IsOrderlyBut}
 use Rattle.sim_world.specs.declared.failing.Failing.{Failing}
 use Rattle.sim_world.specs.declared.jobs.Job.{Job}

@@ -1,9 +1,7 @@
-//! Tests of the values that each layer speaks of, of items as bytes, and of the paths of names.
+//! Tests of values that are copied into memory of their own. What the values are is said by the rows of `tables`.
 #![tactic(auto)]
 
 #[cfg(test)]
-mod items;
-#[cfg(test)]
-mod paths;
+mod options;
 #[cfg(test)]
 mod values;

@@ -1,12 +1,9 @@
 use cache_types::{
-    Answer, Bytes, Driver, DriverError, Key, KeyList, Layout, Meta, Name, Request, RoPlan, Row,
-    RowList, Store, Text, TextList, blob_len, driver_blob, front_len,
+    Answer, Bytes, Driver, Key, KeyList, Layout, Meta, Name, NoMemory, Request, RoPlan, Row,
+    RowList, Store, Text, TextList,
 };
 use std::alloc::Global;
 use std::test::Fail;
-
-/// The driver blob of the id `d`, the GPU name `g` and the flags 0.
-const BLOB: [u8; 14] = [1, b'd', 0, b'g', 0, 8, 0, 0, 0, 0, 0, 0, 0, 0];
 
 const KEY: Key = Key { bytes: [7; 20] };
 
@@ -15,79 +12,83 @@ const STORE: Store = Store {
     layout: Layout::Foz,
 };
 
-#[test]
-fn blobs_are_as_the_format_says(rt: HostRuntime) -> Result<(), Fail> {
-    let driver = Driver::new(rt.alloc(), "d", "g", 0)?;
-    assert_eq!(rt;
-        driver_blob(rt.alloc(), &driver)?.as_slice(),
-        BLOB.as_slice()
-    );
-    assert_eq!(rt; blob_len(&driver), 14);
-    let shortest = Driver::new(rt.alloc(), "", "", 0x0807_0605_0403_0201)?;
-    let wanted = [1, 0, 0, 8, 1, 2, 3, 4, 5, 6, 7, 8];
-    assert_eq!(rt; shortest.blob(), wanted.as_slice());
-    Ok(())
+/// One name of each kind.
+fn a_name(alloc: Global, kind: u32) -> Result<Name, NoMemory> {
+    let root = 1;
+    Ok(match kind {
+        0 => Name::FolderLock { root, byte: 0xa9 },
+        1 => Name::Entry { root, key: KEY },
+        2 => Name::Temp { root, key: KEY },
+        3 => Name::KeyIndex { root },
+        4 => Name::Db { root },
+        5 => Name::Idx { root },
+        6 => Name::Foz { root },
+        7 => Name::FozIdx { root },
+        8 => a_read_only_name(alloc)?,
+        9 => Name::RoIdx {
+            root,
+            name: Text::of(alloc, "ro")?,
+        },
+        _ => Name::List,
+    })
+}
+
+fn a_read_only_name(alloc: Global) -> Result<Name, NoMemory> {
+    let name = Text::of(alloc, "ro")?;
+    Ok(Name::Ro { root: 1, name })
 }
 
 #[test]
-fn driver_texts_have_a_limit(rt: HostRuntime) -> Result<(), Fail> {
-    let text = "x".repeat(rt.alloc(), 255)?;
-    let longest = Driver::new(rt.alloc(), text.as_str(), text.as_str(), 0)?;
-    assert_eq!(rt; blob_len(&longest), 522);
-    let long = "x".repeat(rt.alloc(), 256)?;
-    for (id, gpu) in [
-        (long.as_str(), ""),
-        ("", long.as_str()),
-        ("d", "g\0"),
-        ("\0d", "g"),
-    ] {
-        let refused = matches!(
-            Driver::new(rt.alloc(), id, gpu, 0),
-            Err(DriverError::BadText)
-        );
-        assert!(rt; refused);
+fn names_are_copied(rt: HostRuntime) -> Result<(), NoMemory> {
+    for kind in 0..11 {
+        let name = a_name(rt.alloc(), kind)?;
+        let copy = name.copy()?;
+        assert!(rt; copy.is(&name));
     }
     Ok(())
 }
 
 #[test]
-fn drivers_are_found_in_front(rt: HostRuntime) -> Result<(), Fail> {
-    let driver = Driver::new(rt.alloc(), "d", "g", 0)?;
-    let found = Driver::of_front(Bytes::of(rt.alloc(), &BLOB)?).ok_or("no driver")?;
-    assert!(rt; found.is(&driver));
-    assert!(rt; Driver::of_front(Bytes::of(rt.alloc(), &BLOB[..13])?).is_none());
-    assert_eq!(rt; front_len(&BLOB), Some(14));
-    assert_eq!(rt; front_len(&BLOB[..13]), None);
-    let not_text = [1, 0xff, 0, 0, 8, 0, 0, 0, 0, 0, 0, 0, 0, 9];
-    assert_eq!(rt; front_len(&not_text), Some(13), "an id needn't be UTF-8");
+fn drivers_are_copied(rt: HostRuntime) -> Result<(), Fail> {
+    let driver = Driver::new(rt.alloc(), "d", "g", 258)?;
+    let copy = driver.copy()?;
+    assert!(rt; copy.is(&driver));
     Ok(())
 }
 
 #[test]
-fn answers_with_lists_are_copied(rt: HostRuntime) -> Result<(), Fail> {
-    let alloc = rt.alloc();
-    Answer::Hit(Bytes::of(alloc, &[1])?).copy(alloc)?;
-    Answer::Keys(KeyList::of(alloc, &[KEY])?).copy(alloc)?;
+fn hits_are_copied(rt: HostRuntime) -> Result<(), NoMemory> {
+    let hit = Answer::Hit(Bytes::of(rt.alloc(), b"abc")?);
+    let copy = hit.copy(rt.alloc())?;
+    assert!(rt; matches!(&copy, Answer::Hit(blob) if blob.as_slice() == b"abc".as_slice()));
+    Ok(())
+}
+
+#[test]
+fn answers_with_keys_are_copied(rt: HostRuntime) -> Result<(), NoMemory> {
+    let keys = Answer::Keys(KeyList::of(rt.alloc(), &[KEY, KEY])?);
+    let copy = keys.copy(rt.alloc())?;
+    assert!(rt; matches!(&copy, Answer::Keys(keys) if keys.as_slice() == [KEY, KEY].as_slice()));
+    Ok(())
+}
+
+/// A head and a row of `verify`.
+fn some_rows(alloc: Global) -> Result<RowList, NoMemory> {
     let mut rows = RowList::new(alloc);
     rows.push(Row::Head(Text::of(alloc, "folder")?))?;
-    Answer::Rows(rows).copy(alloc)?;
-    Ok(())
+    rows.push(Row::Entry {
+        place: Some(3),
+        key: Some(KEY),
+        finding: Text::of(alloc, "ok")?,
+    })?;
+    Ok(rows)
 }
 
 #[test]
-fn names_are_copied(rt: HostRuntime) -> Result<(), Fail> {
-    Name::Entry { root: 1, key: KEY }.copy()?;
-    let name = Text::of(rt.alloc(), "ro")?;
-    Name::Ro { root: 1, name }.copy()?;
-    Ok(())
-}
-
-#[test]
-fn requests_are_copied(rt: HostRuntime) -> Result<(), Fail> {
-    let get = a_get(rt.alloc())?;
-    get.copy(rt.alloc())?;
-    let put = a_put(rt.alloc())?;
-    put.copy(rt.alloc())?;
+fn answers_with_rows_are_copied(rt: HostRuntime) -> Result<(), NoMemory> {
+    let rows = Answer::Rows(some_rows(rt.alloc())?);
+    let copy = rows.copy(rt.alloc())?;
+    assert!(rt; matches!(&copy, Answer::Rows(rows) if rows.as_slice().len() == 2));
     Ok(())
 }
 
@@ -98,10 +99,20 @@ fn a_get(alloc: Global) -> Result<Request, Fail> {
         driver,
         key: KEY,
         ro: RoPlan {
-            names: TextList::new(alloc),
+            names: TextList::of(alloc, &[Text::of(alloc, "ro")?])?,
             list: true,
         },
     })
+}
+
+#[test]
+fn a_get_is_copied(rt: HostRuntime) -> Result<(), Fail> {
+    let get = a_get(rt.alloc())?;
+    let copy = get.copy(rt.alloc())?;
+    assert!(rt;
+        matches!(&copy, Request::Get { ro, .. } if ro.list && ro.names.as_slice().len() == 1)
+    );
+    Ok(())
 }
 
 fn a_put(alloc: Global) -> Result<Request, Fail> {
@@ -110,8 +121,18 @@ fn a_put(alloc: Global) -> Result<Request, Fail> {
         store: STORE,
         driver,
         key: KEY,
-        meta: Meta::Glsl(KeyList::new(alloc)),
-        blob: Bytes::new(alloc),
+        meta: Meta::Glsl(KeyList::of(alloc, &[KEY])?),
+        blob: Bytes::of(alloc, b"abc")?,
         limit: 9,
     })
+}
+
+#[test]
+fn a_put_is_copied(rt: HostRuntime) -> Result<(), Fail> {
+    let put = a_put(rt.alloc())?;
+    let copy = put.copy(rt.alloc())?;
+    assert!(rt;
+        matches!(&copy, Request::Put { blob, limit: 9, .. } if blob.as_slice() == b"abc".as_slice())
+    );
+    Ok(())
 }

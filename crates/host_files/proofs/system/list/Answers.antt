@@ -3,4 +3,4 @@ use Rattle.host_files.specs.Names.{StartsWith}
 use Rattle.host_files.proofs.system.list.Goals as goal
 
 pub returns-clause-folder : goal.returns-clause-folder
-returns-clause-folder g c = rw c.from_vec.ensures (All-permutation (StartsWith c.args.byte) c.loop-entry.keys.items _ c.sort_unstable.ensures.permutation c.loop-entry.invariant)
+returns-clause-folder g c = rw c.from_vec.ensures (All-permutation (StartsWith c.args.byte) _ _ c.sort_unstable.ensures.permutation c.in_ok-add_keys.ensures)

@@ -27,7 +27,7 @@ returns-in_err-driver-clause-back c =
     let p = err_from_is_err_and c.from_residual.result c.from_residual.ensures.1 in
     rw (p.1, p.2) (back_refused c.args.bytes.now c.in_err-driver.field-0.0 (no_driver c))
 
-no_item : (c : goal.After-drop-driver-inside) → IsRefusedForAll c.args.bytes.now c.in_err-item.field-0.0
+no_item : (c : goal.After-drop-driver) → IsRefusedForAll c.args.bytes.now c.in_err-item.field-0.0
 no_item c = refused_behind c.in_ok-driver.driver c.args.bytes.now c.in_err-item.field-0.0 c.if-bytes-lt-MIN_ITEM.false c.in_ok-driver.ensures.found c.in_err-item.ensures.refused
 
 pub returns-in_err-item-clause-refused : goal.returns-in_err-item-clause-refused
