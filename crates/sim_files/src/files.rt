@@ -21,12 +21,23 @@ use std::marker::Model;
 ///
 /// Whatever the seat does, no other seat is the first to break a rule among seats
 /// ([`others_keep`](SimFiles::others_keep)).
-#[derive(Debug, Drop)]
+#[derive(Debug)]
 pub struct SimFiles {
     stage: Stage,
     schedule: Vec<Turn>,
     next: usize,
     me: Who,
+}
+
+impl Drop for SimFiles {
+    fn drop(self) {
+        let SimFiles {
+            stage: _stage,
+            schedule: _schedule,
+            next: _,
+            me: _,
+        } = self;
+    }
 }
 
 impl Model for SimFiles {

@@ -18,11 +18,21 @@ use files_api::{Machine, Step};
 use op_machine::Op;
 
 /// A seat's open operation: its machine, what that wants next, and how many bytes of a write are written.
-#[derive(Debug, Drop)]
+#[derive(Debug)]
 pub struct Operation {
     pub machine: Op,
     pub wants: Step,
     pub done: u64,
+}
+
+impl Drop for Operation {
+    fn drop(self) {
+        let Operation {
+            machine: _machine,
+            wants: _wants,
+            done: _,
+        } = self;
+    }
 }
 
 /// What a step brought.
@@ -75,10 +85,10 @@ fn begin(world: &mut World, who: Who, request: &Request) -> Result<Operation, No
     ensures err { OnErr result (world.new ≡ world.old) }
 {
     let alloc = world.alloc();
-    let machine = Op::new(alloc, request)?;
     let begun = request.copy(alloc)?;
+    let operation = wanting(Op::new(alloc, request)?);
     world.tell(who, Note::Begin(begun))?;
-    Ok(wanting(machine))
+    Ok(operation)
 }
 
 /// Begins an operation, where there is memory for it.
@@ -190,31 +200,35 @@ fn ask(
     }
 }
 
-/// Makes the next item of an open operation, for whose next call a failure may wait.
-fn step_begun(world: &mut World, who: Who, operation: Operation, failing: Option<bool>) -> Moved
-    requires may { MayGo who operation.wants operation.done world.old }
-    requires goes_on { (state_of world.old.past).halted who.process ≡ false }
-    ensures { Goes who operation.wants operation.machine operation.done failing world.old world.new result }
-{
-    let Operation {
-        machine,
-        wants,
-        done,
-    } = operation;
-    match wants {
-        Step::Done(answer) => end(world, who, answer),
-        Step::Ask(call) => ask(world, who, machine, call, done, failing),
+impl Operation {
+    /// Makes its next item, for whose next call a failure may wait.
+    fn step(self, world: &mut World, who: Who, failing: Option<bool>) -> Moved
+        requires may { MayGo who self.wants self.done world.old }
+        requires goes_on { (state_of world.old.past).halted who.process ≡ false }
+        ensures { Goes who self.wants self.machine self.done failing world.old world.new result }
+    {
+        let Operation {
+            machine,
+            wants,
+            done,
+        } = self;
+        match wants {
+            Step::Done(answer) => end(world, who, answer),
+            Step::Ask(call) => ask(world, who, machine, call, done, failing),
+        }
     }
 }
 
-/// Makes the next item of a busy seat, for whose next call a failure may wait.
-pub fn advance(world: &mut World, who: Who, task: Task, failing: Option<bool>) -> Moved
-    requires may { MayAdvance who task world.old }
-    requires goes_on { (state_of world.old.past).halted who.process ≡ false }
-    ensures { Advances who task failing world.old world.new result }
-{
-    match task {
-        Task::Asked(request) => step_asked(world, who, request),
-        Task::Begun(operation) => step_begun(world, who, operation, failing),
+impl Task {
+    /// Makes the next item of a busy seat, for whose next call a failure may wait.
+    pub fn advance(self, world: &mut World, who: Who, failing: Option<bool>) -> Moved
+        requires may { MayAdvance who self world.old }
+        requires goes_on { (state_of world.old.past).halted who.process ≡ false }
+        ensures { Advances who self failing world.old world.new result }
+    {
+        match self {
+            Task::Asked(request) => step_asked(world, who, request),
+            Task::Begun(operation) => operation.step(world, who, failing),
+        }
     }
 }

@@ -24,5 +24,5 @@ pub fn play(alloc: Global, schedule: &[Turn]) -> Result<World, NoMemory>
     for turn in schedule {
         stage.turn(turn)?;
     }
-    Ok(stage.world)
+    Ok(stage.into_world())
 }

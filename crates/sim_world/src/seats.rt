@@ -8,12 +8,21 @@ use crate::operation::Operation;
 use cache_types::{Request, Who};
 
 /// What a busy seat is at.
-#[derive(Debug, Drop)]
+#[derive(Debug)]
 pub enum Task {
     /// It was given a request, which it hasn't begun.
     Asked(Request),
     /// Its operation is open.
     Begun(Operation),
+}
+
+impl Drop for Task {
+    fn drop(self) {
+        match self {
+            Task::Asked(_asked) => {}
+            Task::Begun(_begun) => {}
+        }
+    }
 }
 
 /// A busy seat.

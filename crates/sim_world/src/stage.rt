@@ -21,7 +21,7 @@ use std::alloc::Global;
 /// One seat may be an outsider: it makes its own calls between the turns, by [`own_step`](Stage::own_step),
 /// and may break rules among seats. Every other seat follows its machine and is never the first to break
 /// one. No turn is played for the outsider's process, so the schedule neither stops it nor gives it a job.
-#[derive(Debug, Drop)]
+#[derive(Debug)]
 pub struct Stage {
     pub world: World,
     pub outsider: Option<Who>,
@@ -29,6 +29,19 @@ pub struct Stage {
     pub failing: Vec<Failing>,
     pub jobs: Vec<Job>,
     pub offered: Vec<Offered>,
+}
+
+impl Drop for Stage {
+    fn drop(self) {
+        let Stage {
+            world: _world,
+            outsider: _,
+            seats: _seats,
+            failing: _failing,
+            jobs: _jobs,
+            offered: _offered,
+        } = self;
+    }
 }
 
 /// The same bytes in memory of their own, where there are any.
@@ -60,6 +73,21 @@ impl Stage {
             jobs: Vec::new(alloc),
             offered: Vec::new(alloc),
         }
+    }
+
+    /// The world that it has come to.
+    pub(crate) fn into_world(self) -> World
+        ensures { result ≡ self.world }
+    {
+        let Stage {
+            world,
+            outsider: _,
+            seats: _seats,
+            failing: _failing,
+            jobs: _jobs,
+            offered: _offered,
+        } = self;
+        world
     }
 
     /// Plays one turn. One of the outsider's process does nothing.

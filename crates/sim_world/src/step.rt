@@ -9,7 +9,7 @@ ghost use Rattle.sim_world.specs.declared.operation.Brought.TheVariants as bring
 ghost use Rattle.sim_world.specs.declared.turn.Turn.{Turn};
 
 use crate::failing::{Failing, failing_of, use_up};
-use crate::operation::{Brought, advance};
+use crate::operation::Brought;
 use crate::seats::{put_in, take_out};
 use crate::stage::Stage;
 use cache_types::{NoMemory, Who};
@@ -50,7 +50,7 @@ impl Stage {
             return Ok(());
         };
         let failing = failing_of(&self.failing, who);
-        let moved = advance(&mut self.world, who, task, failing);
+        let moved = task.advance(&mut self.world, who, failing);
         put_in(&mut self.seats, who, moved.task);
         settle(&mut self.failing, who, moved.brought)
     }

@@ -5,7 +5,7 @@ use cache_types::{Bytes, Request, Text, Who};
 
 /// One turn of a schedule. A turn that doesn't apply does nothing, and so does any turn of a process that
 /// was stopped.
-#[derive(Debug, Drop)]
+#[derive(Debug)]
 pub enum Turn {
     /// A seat that is at nothing is given a request. One that isn't built yet, or a put with more than 64
     /// keys, doesn't apply.
@@ -54,6 +54,34 @@ pub enum Turn {
     },
     /// The turn of the outsider: what it does then it does by its own calls, so nothing is played.
     Own,
+}
+
+impl Drop for Turn {
+    fn drop(self) {
+        match self {
+            Turn::Start {
+                who: _,
+                request: _request,
+            } => {}
+            Turn::Step { who: _ } => {}
+            Turn::Fail { who: _, memory: _ } => {}
+            Turn::Offer {
+                process: _,
+                request: _request,
+            } => {}
+            Turn::Take { who: _ } => {}
+            Turn::Stop { process: _ } => {}
+            Turn::Install {
+                root: _,
+                name: _name,
+                main: _main,
+                index: _index,
+            } => {}
+            Turn::SetList { text: _text } => {}
+            Turn::Clock { now: _ } => {}
+            Turn::Own => {}
+        }
+    }
 }
 
 impl Turn {

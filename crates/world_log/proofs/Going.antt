@@ -26,16 +26,13 @@ use Rattle.world_tables.specs.declared.tables.Tables.{Tables}
 
 -- ---- over one item
 
-pub told_same : (world new : Held) (item copy : LogItem) → new ≡ told world (copy ∷ []) → copy ≡ item → new ≡ told world (item ∷ [])
-told_same world new item copy more same = more ∙ ap (λ (x : LogItem). told world (x ∷ [])) same
-
 -- the names and the tables are as they are after it
-pub is_after : (s : Summary) (names : NamesHad) (before tables : Tables) (world new : Held) (item copy : LogItem) → disk_at before ≡ disk_of world.past → disk_at tables ≡ disk_of new.past
-    → new ≡ told world (copy ∷ []) → copy ≡ item → disk_of world.past ≡ s.state.disk → IsNamesHad names (s.had ++ gained (disk_at before) item)
+pub is_after : (s : Summary) (names : NamesHad) (before tables : Tables) (world new : Held) (item : LogItem) → disk_at before ≡ disk_of world.past → disk_at tables ≡ disk_of new.past
+    → new ≡ told world (item ∷ []) → disk_of world.past ≡ s.state.disk → IsNamesHad names (s.had ++ gained (disk_at before) item)
     → keep_bytes is_entry s.had s.state.disk (applied s.state.disk item) ≡ true → IsAfter names tables s item
-is_after s names before tables world new item copy old after' more same disk had kept = record {
+is_after s names before tables world new item old after' more disk had kept = record {
   had = subst (λ (d : Disk). IsNamesHad names (s.had ++ gained d item)) (old ∙ disk) had;
-  disk = after' ∙ ap (λ (st : State). st.disk) (next_state world new item copy more same) ∙ ap (λ (d : Disk). applied d item) disk;
+  disk = after' ∙ ap (λ (st : State). st.disk) (next_state world new item more) ∙ ap (λ (d : Disk). applied d item) disk;
   kept = kept;
 }
 
@@ -55,7 +52,7 @@ pub legal_here : (log : List LogItem) (n : ℕ) (world : Held) (item : LogItem) 
 legal_here log n world item legal less is at = subst (λ (h : Held). IsLegal (state_of h.past) item) (sym at) (legal_at (first []) log n item legal less is)
 
 pub world_then : (log : List LogItem) (n : ℕ) (world new : Held) (item : LogItem) → n < length log → item ≡ get_or log n item → IsAt log n world → new ≡ told world (item ∷ []) → IsAt log (n + 1) new
-world_then log n world new item less is at more = next_done opening log n world new item item less is at more refl
+world_then log n world new item less is at more = next_done opening log n world new item less is at more
 
 pub ledger_then : (log : List LogItem) (n : ℕ) (ledger : Ledger) (item : LogItem) → n < length log → item ≡ get_or log n item → All summed Passed nothing (take n log) → passes (summary_of (take n log)) item ≡ true
     → (keep_bytes is_entry (summary_of (take n log)).had (summary_of (take n log)).state.disk (applied (summary_of (take n log)).state.disk item) ≡ true → Carries ledger (summed (summary_of (take n log)) item))

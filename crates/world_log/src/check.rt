@@ -72,8 +72,7 @@ fn go_on(world: &mut World, ledger: &mut Ledger, item: &LogItem) -> Result<(), N
     ensures ledger { OnOk result ((s : Summary) → Carries ledger.old s → disk_of world.old.past ≡ s.state.disk → keep_bytes is_entry s.had s.state.disk (applied s.state.disk item.now) ≡ true → Carries ledger.new (summed s item.now)) }
 {
     ledger.follow_names(world.tables(), item)?;
-    let again = item.copy(world.alloc())?;
-    world.replay(again)?;
+    world.repeat(item)?;
     ledger.follow(world.tables(), item)?;
     Ok(())
 }

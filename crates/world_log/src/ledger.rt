@@ -16,7 +16,7 @@ use std::alloc::Global;
 use world_tables::Tables;
 
 /// What the rules ask of a log's past, carried along it. The disk stands in the world's tables beside it.
-#[derive(Debug, Drop)]
+#[derive(Debug)]
 pub struct Ledger {
     pub alloc: Global,
     /// The names that files have had.
@@ -29,6 +29,19 @@ pub struct Ledger {
     pub evicting: Vec<OpenEvict>,
     /// Whether a process was stopped or a call failed.
     pub rough: bool,
+}
+
+impl Drop for Ledger {
+    fn drop(self) {
+        let Ledger {
+            alloc: _,
+            names: _names,
+            operations: _operations,
+            puts: _puts,
+            evicting: _evicting,
+            rough: _,
+        } = self;
+    }
 }
 
 /// Whether an item is a stop of a process, or a call that failed or was refused memory.

@@ -12,13 +12,23 @@ use cache_types::{Bytes, NoMemory};
 use std::alloc::Global;
 
 /// The puts that began under one address, of which there is one at least.
-#[derive(Debug, Drop)]
+#[derive(Debug)]
 pub struct PutsAt {
     pub at: Address,
     /// What the first of them puts.
     pub first: Bytes,
     /// What the others put, in the order of their Begins.
     pub later: Vec<Bytes>,
+}
+
+impl Drop for PutsAt {
+    fn drop(self) {
+        let PutsAt {
+            at: _at,
+            first: _first,
+            later: _later,
+        } = self;
+    }
 }
 
 /// Whether one of these is the blob. Looks at the last first.
