@@ -8,7 +8,7 @@ ghost use Rattle.file_model.specs.Seeing.{seen_of};
 ghost use Rattle.file_model.specs.Steps.{IsEarlier, IsPlace, is_inside};
 ghost use Rattle.files_api.specs.Drive.{IsEndOf};
 ghost use Rattle.op_machine.specs.Requests.{IsBuilt};
-ghost use Rattle.sim_world.specs.Steps.{wanting as the_wanting, IsFirst, IsFed, Asks, Ends, Goes, MayGo, Begins, Waits, Advances, MayAdvance, fate_of as the_fate, brought_reply};
+ghost use Rattle.sim_world.specs.Steps.{wanting as the_wanting, IsFirst, IsFed, Asks, Ends, Goes, MayGo, Begins, Waits, fate_of as the_fate, brought_reply};
 
 use crate::seats::Task;
 use cache_types::{Answer, NoMemory, Request, Who};
@@ -92,7 +92,7 @@ fn begin(world: &mut World, who: Who, request: &Request) -> Result<Operation, No
 }
 
 /// Begins an operation, where there is memory for it.
-fn step_asked(world: &mut World, who: Who, request: Request) -> Moved
+pub fn step_asked(world: &mut World, who: Who, request: Request) -> Moved
     requires built { IsBuilt request }
     requires goes_on { (state_of world.old.past).halted who.process ≡ false }
     ensures { Begins who request world.old world.new result ⊎ Waits request world.old world.new result }
@@ -202,7 +202,7 @@ fn ask(
 
 impl Operation {
     /// Makes its next item, for whose next call a failure may wait.
-    fn step(self, world: &mut World, who: Who, failing: Option<bool>) -> Moved
+    pub fn step(self, world: &mut World, who: Who, failing: Option<bool>) -> Moved
         requires may { MayGo who self.wants self.done world.old }
         requires goes_on { (state_of world.old.past).halted who.process ≡ false }
         ensures { Goes who self.wants self.machine self.done failing world.old world.new result }
@@ -215,20 +215,6 @@ impl Operation {
         match wants {
             Step::Done(answer) => end(world, who, answer),
             Step::Ask(call) => ask(world, who, machine, call, done, failing),
-        }
-    }
-}
-
-impl Task {
-    /// Makes the next item of a busy seat, for whose next call a failure may wait.
-    pub fn advance(self, world: &mut World, who: Who, failing: Option<bool>) -> Moved
-        requires may { MayAdvance who self world.old }
-        requires goes_on { (state_of world.old.past).halted who.process ≡ false }
-        ensures { Advances who self failing world.old world.new result }
-    {
-        match self {
-            Task::Asked(request) => step_asked(world, who, request),
-            Task::Begun(operation) => operation.step(world, who, failing),
         }
     }
 }

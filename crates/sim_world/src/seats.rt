@@ -1,11 +1,14 @@
-ghost use Rattle.std.specs.Prelude.{◌≡◌, ◌<◌, None, IsSome, is_none, nat_eq, if◌then◌else◌};
+ghost use Rattle.std.specs.Prelude.{◌≡◌, ◌<◌, None, IsSome, is_none, nat_eq, false, if◌then◌else◌};
 ghost use Rattle.std.specs.Vec.{vec_len, vec_capacity};
 ghost use Rattle.cache_types.specs.Seats.{same_seat};
 ghost use Rattle.cache_types.specs.declared.seat.Who.{Who};
+ghost use Rattle.file_log.specs.State.{state_of};
+ghost use Rattle.sim_world.specs.Steps.{Advances, MayAdvance};
 ghost use Rattle.sim_world.specs.Tables.{task_of, place_in, Once, seats_with};
 
-use crate::operation::Operation;
+use crate::operation::{Moved, Operation, step_asked};
 use cache_types::{Request, Who};
+use file_model::World;
 
 /// What a busy seat is at.
 #[derive(Debug)]
@@ -21,6 +24,20 @@ impl Drop for Task {
         match self {
             Task::Asked(_asked) => {}
             Task::Begun(_begun) => {}
+        }
+    }
+}
+
+impl Task {
+    /// Makes the next item of a busy seat, for whose next call a failure may wait.
+    pub fn advance(self, world: &mut World, who: Who, failing: Option<bool>) -> Moved
+        requires may { MayAdvance who self world.old }
+        requires goes_on { (state_of world.old.past).halted who.process ≡ false }
+        ensures { Advances who self failing world.old world.new result }
+    {
+        match self {
+            Task::Asked(request) => step_asked(world, who, request),
+            Task::Begun(operation) => operation.step(world, who, failing),
         }
     }
 }
