@@ -1,7 +1,5 @@
-//! Tests of what a log earns: by the operations and names that are carried along it, and by its verdict.
+//! A test of the names that files have had in a log, which no log alone can show.
 #![tactic(auto)]
 
 #[cfg(test)]
-mod earned;
-#[cfg(test)]
-mod verdicts;
+mod names;

@@ -1,9 +1,6 @@
-//! Tests of worlds, of files and streams in memory that fail where they are told to, and of the blob that a store holds
-//! on the disk of a world.
+//! Tests of worlds, of files over a world to which read-only databases were brought, and of streams that fail where they are told to.
 #![tactic(auto)]
 
-#[cfg(test)]
-mod holdings;
 #[cfg(test)]
 mod memory;
 #[cfg(test)]
