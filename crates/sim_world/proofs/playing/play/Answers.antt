@@ -1,7 +1,9 @@
-use Rattle.std.proofs.Common.{◌≤◌, ◌∙◌, length, List, Option, refl, ap, subst, rules}
+use Rattle.std.proofs.Common.{◌≤◌, ◌∙◌, length, List, Option, refl, sym, ap, subst, rules}
 use Rattle.std.proofs.lemmas.List.{take_all}
 use Rattle.cache_types.specs.declared.seat.Who.{Who}
+use Rattle.file_model.specs.Held.{Held}
 use Rattle.sim_world.specs.declared.turn.Turn.{Turn}
+use Rattle.sim_world.specs.Plays.{IsPlayed}
 use Rattle.sim_world.specs.Played.{concerns, Comes}
 use Rattle.sim_world.specs.Scene.{opening}
 use Rattle.sim_world.specs.Stages.{scene_of}
@@ -27,10 +29,11 @@ returns c =
     let kept = c.loop-turn.invariant in
     let seated = kept.order.seated in
     let end : length schedule ≤ c.loop-turn.turn-index = search rules in
-    record {
+    let played : IsPlayed schedule stage.world.past = record {
       start = seated.start;
       legal = seated.legal;
       played = (scene_of stage, subst (λ (turns : List Turn). Comes opening turns (scene_of stage)) (take_all c.loop-turn.turn-index schedule end) kept.comes, refl);
       cooperating = alone_cooperate stage.outsider stage.world stage.seats.items seated kept.outsider;
       operations = alone_operate stage.outsider stage.world stage.seats.items seated kept.outsider;
-    }
+    } in
+    subst (λ (world : Held). IsPlayed schedule world.past) (sym c.into_world.ensures) played
