@@ -12,6 +12,8 @@ import subprocess
 import sys
 import tempfile
 
+# Rows that begin so give something, and want nothing.
+GIVEN = ("file", "lies", "variable", "process", "spoil", "told")
 # The words behind which a row says what is wanted.
 WANTED = ("ends", "saying", "prints", "holds", "has", "is", "made", "verdict", "reads", "have", "says", "gives", "asked", "item")
 OTHERS = {
@@ -27,7 +29,11 @@ OTHERS = {
 
 def breaks_of(row):
     """Each way to break what a row wants."""
-    places = [m.end() for word in WANTED for m in re.finditer(rf"(?<=\s){word}(?=\s)", row)]
+    head = row.split()[0]
+    if head in GIVEN:
+        return
+    wanted = ("ends", "saying", "prints") if head == "run" else WANTED
+    places = [m.end() for word in wanted for m in re.finditer(rf"(?<=\s){word}(?=\s)", row)]
     if row.startswith("made "):
         places.append(5)
     if not places:
