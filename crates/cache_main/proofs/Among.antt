@@ -15,7 +15,7 @@ use Rattle.file_log.specs.Log.{History}
 use Rattle.file_log.specs.Told.{Grows}
 use Rattle.file_log.proofs.All.{none_keeps}
 use Rattle.file_log.proofs.Logs.{nothing_yet}
-use Rattle.folder_rules.specs.Changes.{with_item}
+use Rattle.seat_rules.specs.Changes.{with_item}
 use Rattle.folder_rules.specs.Rules.{KeepsRules}
 use Rattle.folder_store.specs.Keeping.{HasKept, OthersKeepRules, WasLacking}
 use Rattle.folder_store.specs.Lookup.{IsLookupAnswer}

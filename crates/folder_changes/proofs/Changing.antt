@@ -16,8 +16,8 @@ use Rattle.file_log.specs.declared.item.LogItem.{LogItem}
 use Rattle.file_log.specs.declared.item.LogItem.TheVariants as items
 use Rattle.file_log.specs.declared.reply.Reply.{Reply}
 use Rattle.file_log.specs.declared.reply.Reply.TheVariants.{Done}
-use Rattle.folder_rules.specs.Changes.{with_item, HasHad}
-use Rattle.folder_rules.proofs.Histories.{front_cases}
+use Rattle.seat_rules.specs.Changes.{with_item, HasHad}
+use Rattle.seat_rules.proofs.Histories.{front_cases}
 
 -- ---- names
 

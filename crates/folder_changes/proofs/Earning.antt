@@ -24,13 +24,13 @@ use Rattle.file_log.proofs.Logs.{own-append}
 use Rattle.std.proofs.lemmas.List.Folds.{list_any-append}
 use Rattle.std.proofs.lemmas.List.Sums.{fold-append}
 use Rattle.std.proofs.lemmas.Bool.{false≢true}
-use Rattle.folder_rules.specs.Answers.{root_of, may_end, IsEarned}
-use Rattle.folder_rules.specs.Changes.{with_item}
-use Rattle.folder_rules.specs.Operations.{AfterOne, GoesOn, IsInside, WasHeldOff, is_bound, is_end_of, tried, tries}
-use Rattle.folder_rules.specs.Rules.{disk_at}
-use Rattle.folder_rules.proofs.Courses.{after_stays, after_now, inside_then, failed_then}
-use Rattle.folder_rules.proofs.Histories.{disk_further, no_end_then}
-use Rattle.folder_rules.proofs.Trying.{tries_more, tried_other, held_off_stays, held_off_now}
+use Rattle.seat_rules.specs.Answers.{root_of, may_end}
+use Rattle.folder_rules.specs.Answers.{IsEarned}
+use Rattle.seat_rules.specs.Changes.{with_item, disk_at}
+use Rattle.seat_rules.specs.Operations.{AfterOne, GoesOn, IsInside, WasHeldOff, is_bound, is_end_of, tried, tries}
+use Rattle.seat_rules.proofs.Courses.{after_stays, after_now, inside_then, failed_then}
+use Rattle.seat_rules.proofs.Histories.{disk_further, no_end_then}
+use Rattle.seat_rules.proofs.Trying.{tries_more, tried_other, held_off_stays, held_off_now}
 use Rattle.folder_changes.specs.Course.{HasSeen, IsWithin, OperationsMeet, OperationsEarn, IdleMayBegin}
 
 -- ---- what was seen

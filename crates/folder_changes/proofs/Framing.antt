@@ -14,10 +14,10 @@ use Rattle.file_log.specs.Log.{History, seat_of, is_seat, is_own, is_stop}
 use Rattle.file_log.specs.State.{disk_of}
 use Rattle.file_log.specs.declared.item.LogItem.{LogItem}
 use Rattle.file_log.specs.declared.item.LogItem.TheVariants as items
-use Rattle.folder_rules.specs.Changes.{has_lock}
-use Rattle.folder_rules.specs.Kinds.{folder_byte}
+use Rattle.seat_rules.specs.Changes.{has_lock}
+use Rattle.seat_rules.specs.Kinds.{folder_byte}
 use Rattle.folder_rules.specs.Rules.{Conforms}
-use Rattle.folder_rules.proofs.Entries.{apart}
+use Rattle.seat_rules.proofs.Unseated.{apart}
 use Rattle.folder_changes.specs.Frame.{HasFolder, Leaves, OthersLeave}
 use Rattle.folder_changes.specs.Order.{InOrder}
 use Rattle.folder_changes.proofs.Changing.{file_same}

@@ -17,13 +17,15 @@ use Rattle.file_log.specs.declared.item.LogItem.{LogItem}
 use Rattle.file_log.specs.declared.item.LogItem.TheVariants as items
 use Rattle.file_log.specs.declared.reply.Reply.TheVariants.{Done}
 use Rattle.file_log.proofs.All.{seat_self}
-use Rattle.folder_rules.specs.Changes.{with_item, has_lock, may_write, HasHad, is_rename}
-use Rattle.folder_rules.specs.Kinds.{folder_byte, is_entry, is_temporary, comes_guarded, is_lasting, is_foreign, is_unwritten}
-use Rattle.folder_rules.specs.Rules.{IsLeft, Stays, AnswersAreEarned, NothingIsLost, Conforms}
+use Rattle.seat_rules.specs.Changes.{with_item, has_lock, may_write, HasHad, is_rename}
+use Rattle.seat_rules.specs.Kinds.{folder_byte, is_entry, is_temporary, comes_guarded, is_lasting, is_foreign, is_unwritten}
+use Rattle.seat_rules.specs.Rules.{IsLeft, Stays}
+use Rattle.folder_rules.specs.Rules.{AnswersAreEarned, NothingIsLost, Conforms}
 use Rattle.folder_rules.specs.Whole.{folder_of, IsPutItem, EntriesAreWhole}
-use Rattle.folder_rules.proofs.Entries.{held_same, apart}
-use Rattle.folder_rules.proofs.Histories.{disk_then}
-use Rattle.folder_rules.proofs.Puts.{put_goes_on}
+use Rattle.seat_rules.proofs.Unseated.{apart}
+use Rattle.folder_rules.proofs.Entries.{held_same}
+use Rattle.seat_rules.proofs.Histories.{disk_then}
+use Rattle.seat_rules.proofs.Puts.{put_goes_on}
 use Rattle.folder_changes.specs.Frame.{HasFolder}
 use Rattle.folder_changes.specs.Order.{is_settled, InOrder}
 use Rattle.folder_changes.specs.Own.{StillKeeps, MakingKeeps, WritingKeeps, InstallingKeeps}

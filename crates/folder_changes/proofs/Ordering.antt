@@ -19,12 +19,12 @@ use Rattle.file_log.specs.declared.call.Call.TheVariants as calls
 use Rattle.file_log.specs.declared.item.LogItem.{LogItem}
 use Rattle.file_log.specs.declared.item.LogItem.TheVariants as items
 use Rattle.file_log.specs.declared.reply.Reply.TheVariants.{Done}
-use Rattle.folder_rules.specs.Changes.{with_item, HasHad}
+use Rattle.seat_rules.specs.Changes.{with_item, HasHad}
 use Rattle.folder_rules.specs.Rules.{KeepsRules, Conforms}
 use Rattle.folder_rules.specs.Whole.{folder_of, EntriesAreWhole}
 use Rattle.folder_rules.proofs.Entries.{unseated_file}
-use Rattle.folder_rules.proofs.Histories.{disk_then}
-use Rattle.folder_rules.proofs.Puts.{BeginFits, fits_of, put_goes_on}
+use Rattle.seat_rules.proofs.Histories.{disk_then}
+use Rattle.seat_rules.proofs.Puts.{BeginFits, fits_of, put_goes_on}
 use Rattle.folder_changes.specs.Order.{is_settled, InOrder, StaysInOrder}
 use Rattle.folder_changes.proofs.Changing.{same_self, none_is_no_file, IsMoved, Comes, comes, count_grows, had_split}
 use Rattle.folder_changes.proofs.Locking.{AreSlots, slots_then}

@@ -21,12 +21,13 @@ use Rattle.file_log.specs.declared.item.LogItem.{LogItem}
 use Rattle.file_log.specs.declared.item.LogItem.TheVariants as items
 use Rattle.file_log.specs.declared.reply.Reply.{Reply}
 use Rattle.file_log.specs.declared.reply.Reply.TheVariants.{Held}
-use Rattle.folder_rules.specs.Answers.{root_of, may_end, is_too_large}
-use Rattle.folder_rules.specs.Changes.{with_item}
-use Rattle.folder_rules.specs.Holds.{Address, address, Gives, IsHeld}
-use Rattle.folder_rules.specs.Kinds.{is_lock_of}
-use Rattle.folder_rules.specs.Operations.{is_bound, IsInside, AfterOne, EvictIsOpen, tries, WasHeldOff}
-use Rattle.folder_rules.specs.Rules.{AnswersAreEarned, disk_at}
+use Rattle.seat_rules.specs.Answers.{root_of, may_end, is_too_large}
+use Rattle.seat_rules.specs.Changes.{with_item, disk_at}
+use Rattle.seat_rules.specs.Address.{Address, address}
+use Rattle.folder_rules.specs.Holds.{Gives, IsHeld}
+use Rattle.seat_rules.specs.Kinds.{is_lock_of}
+use Rattle.seat_rules.specs.Operations.{is_bound, IsInside, AfterOne, EvictIsOpen, tries, WasHeldOff}
+use Rattle.folder_rules.specs.Rules.{AnswersAreEarned}
 
 -- ---- what it has met
 

@@ -8,8 +8,8 @@ use Rattle.file_log.specs.Effect.{applied}
 use Rattle.file_log.specs.Log.{History, is_own, is_stop}
 use Rattle.file_log.specs.State.{disk_of}
 use Rattle.file_log.specs.declared.item.LogItem.{LogItem}
-use Rattle.folder_rules.specs.Changes.{HasHad}
-use Rattle.folder_rules.specs.Kinds.{folder_byte}
+use Rattle.seat_rules.specs.Changes.{HasHad}
+use Rattle.seat_rules.specs.Kinds.{folder_byte}
 use Rattle.folder_rules.specs.Rules.{KeepsRules}
 use Rattle.folder_changes.specs.Order.{InOrder}
 

@@ -9,8 +9,8 @@ use Rattle.file_log.specs.Legal.{IsLegal}
 use Rattle.file_log.specs.Log.{History, WasPut}
 use Rattle.file_log.specs.State.{state_of, disk_of}
 use Rattle.file_log.specs.declared.item.LogItem.{LogItem}
-use Rattle.folder_rules.specs.Changes.{with_item, HasHad}
-use Rattle.folder_rules.specs.Kinds.{is_entry, is_unwritten}
+use Rattle.seat_rules.specs.Changes.{with_item, HasHad}
+use Rattle.seat_rules.specs.Kinds.{is_entry, is_unwritten}
 use Rattle.folder_rules.specs.Rules.{KeepsRules}
 use Rattle.folder_rules.specs.Whole.{EntriesAreWhole}
 

@@ -14,10 +14,11 @@ use Rattle.file_log.specs.declared.call.Call.TheVariants.{Rename}
 use Rattle.file_log.specs.declared.item.LogItem.{LogItem}
 use Rattle.file_log.specs.declared.item.LogItem.TheVariants.{Did}
 use Rattle.file_log.specs.declared.reply.Reply.TheVariants.{Done}
-use Rattle.folder_rules.specs.Changes.{may_write}
-use Rattle.folder_rules.specs.Holds.{Address, address, IsHeld}
-use Rattle.folder_rules.specs.Kinds.{folder_byte, is_entry, comes_guarded, is_foreign}
-use Rattle.folder_rules.specs.Operations.{EvictIsOpen}
+use Rattle.seat_rules.specs.Changes.{may_write}
+use Rattle.seat_rules.specs.Address.{Address, address}
+use Rattle.folder_rules.specs.Holds.{IsHeld}
+use Rattle.seat_rules.specs.Kinds.{folder_byte, is_entry, comes_guarded, is_foreign}
+use Rattle.seat_rules.specs.Operations.{EvictIsOpen}
 use Rattle.folder_rules.specs.Rules.{AnswersAreEarned, Conforms}
 use Rattle.folder_rules.specs.Whole.{folder_of, IsPutItem}
 use Rattle.folder_changes.specs.Frame.{HasFolder}

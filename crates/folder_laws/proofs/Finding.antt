@@ -17,18 +17,21 @@ use Rattle.file_log.specs.Operation.{is_fault}
 use Rattle.file_log.specs.State.{first, disk_of}
 use Rattle.file_log.specs.declared.item.LogItem.{LogItem}
 use Rattle.file_log.specs.declared.item.LogItem.TheVariants as items
-use Rattle.folder_rules.specs.Answers.{may_end, IsEarned}
-use Rattle.folder_rules.specs.Changes.{with_item}
-use Rattle.folder_rules.specs.Holds.{Address, Gives, IsHeld}
-use Rattle.folder_rules.specs.Operations.{IsInside, AfterOne}
-use Rattle.folder_rules.specs.Places.{AtEach, Cooperating}
-use Rattle.folder_rules.specs.Promises.{is_well, is_finding, NoEvictOf, IsPromised, IsFound, Found}
-use Rattle.folder_rules.specs.Rules.{KeepsRules, disk_at}
-use Rattle.folder_rules.proofs.Along.{past, there, everywhere, all_from}
+use Rattle.seat_rules.specs.Answers.{may_end}
+use Rattle.folder_rules.specs.Answers.{IsEarned}
+use Rattle.seat_rules.specs.Changes.{with_item, disk_at}
+use Rattle.seat_rules.specs.Address.{Address}
+use Rattle.folder_rules.specs.Holds.{Gives, IsHeld}
+use Rattle.seat_rules.specs.Operations.{IsInside, AfterOne}
+use Rattle.seat_rules.specs.Places.{AtEach}
+use Rattle.folder_rules.specs.Places.{Cooperating}
+use Rattle.seat_rules.specs.Promises.{is_well, is_finding, NoEvictOf, IsPromised, IsFound, Found}
+use Rattle.folder_rules.specs.Rules.{KeepsRules}
+use Rattle.seat_rules.proofs.Along.{past, there, everywhere, all_from}
 use Rattle.folder_laws.proofs.Held.{evict_of, IsSafe, stays_held, held_since, never_lost, safe_split, no_evict_more, no_evict_last}
-use Rattle.folder_rules.proofs.Histories.{goes_by, quiet_then, quiet_front, quiet_rest}
-use Rattle.folder_rules.proofs.Inside.{Earned, earned_at}
-use Rattle.folder_rules.proofs.Puts.{fits_there}
+use Rattle.seat_rules.proofs.Histories.{goes_by, quiet_then, quiet_front, quiet_rest}
+use Rattle.folder_rules.proofs.Earning.{Earned, earned_at}
+use Rattle.seat_rules.proofs.Puts.{fits_there}
 
 -- ---- no call of a quiet part failed
 

@@ -10,14 +10,15 @@ use Rattle.file_log.specs.Log.{History, seat_of, Quiet}
 use Rattle.file_log.specs.State.{disk_of}
 use Rattle.file_log.specs.declared.item.LogItem.{LogItem}
 use Rattle.file_log.specs.declared.item.LogItem.TheVariants as items
-use Rattle.folder_rules.specs.Changes.{with_item}
+use Rattle.seat_rules.specs.Changes.{with_item}
 use Rattle.folder_rules.proofs.Entries.{held_same, unseated_file}
-use Rattle.folder_rules.specs.Holds.{Address, IsHeld}
-use Rattle.folder_rules.specs.Operations.{NoEndOf, EvictIsOpen, AfterOne}
-use Rattle.folder_rules.specs.Promises.{NoEvictOf}
+use Rattle.seat_rules.specs.Address.{Address}
+use Rattle.folder_rules.specs.Holds.{IsHeld}
+use Rattle.seat_rules.specs.Operations.{NoEndOf, EvictIsOpen, AfterOne}
+use Rattle.seat_rules.specs.Promises.{NoEvictOf}
 use Rattle.folder_rules.specs.Rules.{KeepsRules}
-use Rattle.folder_rules.proofs.Along.{all_split}
-use Rattle.folder_rules.proofs.Histories.{disk_then, quiet_then, quiet_front, last_of, no_end_front}
+use Rattle.seat_rules.proofs.Along.{all_split}
+use Rattle.seat_rules.proofs.Histories.{disk_then, quiet_then, quiet_front, last_of, no_end_front}
 
 -- ---- no Evict of it is open
 

@@ -17,16 +17,20 @@ use Rattle.file_log.specs.Log.{History, WasPut, seat_of, is_own, is_seat}
 use Rattle.file_log.specs.State.{first, disk_of}
 use Rattle.file_log.specs.declared.item.LogItem.{LogItem}
 use Rattle.file_log.specs.declared.item.LogItem.TheVariants as items
-use Rattle.folder_rules.specs.Holds.{Address, Gives}
-use Rattle.folder_rules.specs.Operations.{IsInside, AfterOne}
-use Rattle.folder_rules.specs.Places.{AtEach, Cooperating}
-use Rattle.folder_rules.specs.Promises.{IsLicensed, Licensed}
-use Rattle.folder_rules.specs.Rules.{KeepsRules, Conforms, disk_at}
+use Rattle.seat_rules.specs.Address.{Address}
+use Rattle.folder_rules.specs.Holds.{Gives}
+use Rattle.seat_rules.specs.Operations.{IsInside, AfterOne}
+use Rattle.seat_rules.specs.Places.{AtEach}
+use Rattle.folder_rules.specs.Places.{Cooperating}
+use Rattle.seat_rules.specs.Promises.{IsLicensed, Licensed}
+use Rattle.seat_rules.specs.Changes.{disk_at}
+use Rattle.folder_rules.specs.Rules.{KeepsRules, Conforms}
 use Rattle.folder_rules.specs.Whole.{folder_of}
-use Rattle.folder_rules.proofs.Puts.{fits_there, fits_in, PutIn, put_goes_on, gives_put}
-use Rattle.folder_rules.proofs.Along.{past, there, everywhere}
-use Rattle.folder_rules.proofs.Histories.{disk_then, disk_further}
-use Rattle.folder_rules.proofs.Inside.{earned_at}
+use Rattle.seat_rules.proofs.Puts.{fits_there, fits_in, PutIn, put_goes_on}
+use Rattle.folder_rules.proofs.Puts.{gives_put}
+use Rattle.seat_rules.proofs.Along.{past, there, everywhere}
+use Rattle.seat_rules.proofs.Histories.{disk_then, disk_further}
+use Rattle.folder_rules.proofs.Earning.{earned_at}
 
 -- ---- after one of the seat's items
 

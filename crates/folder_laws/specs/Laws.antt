@@ -5,7 +5,7 @@ use Rattle.file_log.specs.declared.item.LogItem.{LogItem}
 use Rattle.file_log.specs.Legal.{Legal}
 use Rattle.file_log.specs.State.{first}
 use Rattle.folder_rules.specs.Places.{Cooperating, KeepsBy}
-use Rattle.folder_rules.specs.Promises.{Licensed, Found}
+use Rattle.seat_rules.specs.Promises.{Licensed, Found}
 
 -- in a log that can be, begins on an empty disk and has no place that breaks a rule, each hit gives what was put there,
 -- and while no process was stopped and no call failed each lookup finds what is promised to it

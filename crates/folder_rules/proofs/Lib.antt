@@ -1,9 +1,6 @@
-pub mod Along
-pub mod Courses
+pub mod Earning
 pub mod Entries
-pub mod Histories
-pub mod Inside
 pub mod Placing
 pub mod Puts
-pub mod Trying
+pub mod Served
 pub mod TwoSeats

@@ -18,14 +18,17 @@ use Rattle.file_log.specs.declared.item.LogItem.{LogItem}
 use Rattle.file_log.specs.declared.item.LogItem.TheVariants as items
 use Rattle.file_log.specs.declared.reply.Reply.TheVariants as replies
 use Rattle.item_frame.specs.Item.{item_of}
-use Rattle.folder_rules.specs.Holds.{Address, address, IsHeld}
-use Rattle.folder_rules.specs.Operations.{IsInside, EvictIsOpen}
+use Rattle.seat_rules.specs.Address.{Address, address}
+use Rattle.folder_rules.specs.Holds.{IsHeld}
+use Rattle.seat_rules.specs.Operations.{IsInside, EvictIsOpen}
 use Rattle.folder_rules.specs.Places.{BreaksAt, Cooperating}
-use Rattle.folder_rules.specs.Promises.{IsLicensed, IsPromised, IsFound}
-use Rattle.folder_rules.specs.Rules.{OnlyHoldersWrite, EntriesComeByRename, NamesStay, NothingIsLost, AnswersAreEarned, Conforms, KeepsRules}
+use Rattle.seat_rules.specs.Promises.{IsLicensed, IsPromised, IsFound}
+use Rattle.seat_rules.specs.Rules.{OnlyHoldersWrite, NamesStay}
+use Rattle.folder_rules.specs.Rules.{EntriesComeByRename, NothingIsLost, AnswersAreEarned, Conforms, KeepsRules}
 use Rattle.folder_rules.specs.Whole.{folder_of, EntriesAreWhole}
-use Rattle.folder_rules.proofs.Along.{past}
-use Rattle.folder_rules.proofs.Inside.{one_inside, earned_at}
+use Rattle.seat_rules.proofs.Along.{past}
+use Rattle.seat_rules.proofs.Inside.{one_inside}
+use Rattle.folder_rules.proofs.Earning.{earned_at}
 
 abbrev one : Who
 one = record { process = 0; seat = 0 }

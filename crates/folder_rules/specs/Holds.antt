@@ -5,9 +5,9 @@ use Rattle.cache_types.specs.declared.key.Key.{Key}
 use Rattle.cache_types.specs.declared.name.Name.TheVariants.{Entry}
 use Rattle.cache_types.specs.declared.store.Layout.{Layout}
 use Rattle.cache_types.specs.declared.store.Layout.TheVariants.{Folder, Database, Foz}
-use Rattle.cache_types.specs.declared.store.Store.{Store}
 use Rattle.file_log.specs.Disk.{Disk, file_of}
 use Rattle.item_frame.specs.Item.{Reads}
+use Rattle.seat_rules.specs.Address.{Address}
 
 -- a whole file reads for the driver as the blob
 abbrev pub FileReads : Option (List ℕ) → DriverKeys → List ℕ → Type 0
@@ -17,16 +17,6 @@ FileReads (Some bytes) driver blob = Reads driver bytes blob
 -- the entry's whole file reads for the driver as the blob
 abbrev pub FolderHolds : Disk → ℕ → DriverKeys → Key → List ℕ → Type 0
 FolderHolds d root driver key blob = FileReads (file_of d (Entry root key)) driver blob
-
--- what a blob is put under: a store, a driver and a key
-pub record Address : Type 0 where
-  pub store : Store
-  pub driver : DriverKeys
-  pub key : Key
-
--- the address of these parts
-abbrev pub address : Store → DriverKeys → Key → Address
-address store driver key = record { store = store; driver = driver; key = key }
 
 -- which blob a store of each layout gives: a folder store its entry's, the other two none yet
 abbrev pub GivesBy : Layout → Disk → ℕ → DriverKeys → Key → List ℕ → Type 0

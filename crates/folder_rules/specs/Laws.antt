@@ -3,8 +3,9 @@ use Rattle.std.specs.Prelude.{◌↔◌, List, []}
 use Rattle.cache_types.specs.declared.seat.Who.{Who}
 use Rattle.file_log.specs.Along.{All, Keeps}
 use Rattle.file_log.specs.declared.item.LogItem.{LogItem}
-use Rattle.folder_rules.specs.Changes.{with_item}
-use Rattle.folder_rules.specs.Places.{past, Cooperating, KeepsBy}
+use Rattle.seat_rules.specs.Changes.{with_item}
+use Rattle.seat_rules.specs.Places.{past}
+use Rattle.folder_rules.specs.Places.{Cooperating, KeepsBy}
 use Rattle.folder_rules.specs.Rules.{KeepsRules}
 
 -- no place breaks a rule exactly where each item keeps them, one after another; and so of the items of a seat

@@ -1,10 +1,7 @@
 pub mod Answers
-pub mod Changes
 pub mod Holds
-pub mod Kinds
 pub mod Laws
-pub mod Operations
+pub mod Part
 pub mod Places
-pub mod Promises
 pub mod Rules
 pub mod Whole

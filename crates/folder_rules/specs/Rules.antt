@@ -1,9 +1,8 @@
 -- The rules among seats, each of one item after a history. An item of no seat breaks none.
-use Rattle.std.specs.Prelude.{◌≡◌, ◌⊎◌, ℕ, true, false, List, [], ◌∷◌, ◌++◌, Some}
+use Rattle.std.specs.Prelude.{◌≡◌, ◌⊎◌, ℕ, true, false, [], ◌∷◌, ◌++◌, Some}
 use Rattle.cache_types.specs.Driver.{IsDriver}
 use Rattle.cache_types.specs.declared.answer.Answer.{Answer}
 use Rattle.cache_types.specs.declared.key.Key.{Key}
-use Rattle.cache_types.specs.declared.name.Name.{Name}
 use Rattle.cache_types.specs.declared.name.Name.TheVariants.{Entry, Temp, FolderLock}
 use Rattle.cache_types.specs.declared.request.Request.{Request}
 use Rattle.cache_types.specs.declared.seat.Who.{Who}
@@ -13,30 +12,21 @@ use Rattle.file_log.specs.Disk.{Disk}
 use Rattle.file_log.specs.Effect.{applied}
 use Rattle.file_log.specs.Log.{History, seat_of, Quiet}
 use Rattle.file_log.specs.State.{disk_of}
-use Rattle.folder_rules.specs.Answers.{may_end, may_evict, IsEarned}
-use Rattle.folder_rules.specs.Changes.{with_item, has_lock, may_write, HasHad, is_rename, is_rename_of}
-use Rattle.folder_rules.specs.Holds.{Address, IsHeld}
-use Rattle.folder_rules.specs.Kinds.{folder_byte, is_temporary, comes_guarded, is_lasting, is_foreign, is_unwritten}
-use Rattle.folder_rules.specs.Operations.{IsInside, EvictIsOpen}
+use Rattle.folder_rules.specs.Answers.{IsEarned}
+use Rattle.folder_rules.specs.Holds.{IsHeld}
 use Rattle.folder_rules.specs.Whole.{EntriesAreWhole}
+use Rattle.seat_rules.specs.Address.{Address}
+use Rattle.seat_rules.specs.Answers.{may_end, may_evict}
+use Rattle.seat_rules.specs.Changes.{with_item, disk_at, has_lock, HasHad, is_rename, is_rename_of}
+use Rattle.seat_rules.specs.Kinds.{folder_byte}
+use Rattle.seat_rules.specs.Operations.{IsInside, EvictIsOpen}
+use Rattle.seat_rules.specs.Rules.{OnlyHoldersWrite, NamesStay}
 
 -- ---- entries are whole
 
 -- after the item each entry is whole
 abbrev pub EntriesStayWhole : History → LogItem → Type 0
 EntriesStayWhole h item = EntriesAreWhole (with_item h item)
-
--- ---- only a holder writes
-
--- a name whose lock the seat doesn't have: its file keeps its bytes, no file comes that would come under the lock, a temporary name stays as it is
-pub record IsLeft (old new : Disk) (name : Name) : Type 0 where
-  pub bytes : (file : ℕ) → old.names name ≡ Some file → new.files file ≡ old.files file
-  pub comes : comes_guarded name ≡ true → (file : ℕ) → new.names name ≡ Some file → old.names name ≡ Some file
-  pub stays : is_temporary name ≡ true → new.names name ≡ old.names name
-
--- the seat leaves so each name whose lock it doesn't have
-abbrev pub OnlyHoldersWrite : History → LogItem → Who → Type 0
-OnlyHoldersWrite h item who = (name : Name) → may_write (disk_of h) who name ≡ false → IsLeft (disk_of h) (applied (disk_of h) item) name
 
 -- ---- an entry comes by a rename
 
@@ -52,18 +42,6 @@ pub record ComesByRename (h : History) (item : LogItem) (who : Who) (root : ℕ)
 abbrev pub EntriesComeByRename : History → LogItem → Who → Type 0
 EntriesComeByRename h item who = (root : ℕ) (key : Key) → ComesByRename h item who root key (applied (disk_of h) item)
 
--- ---- names stay
-
--- one name: a lasting one keeps its file, no seat gives or takes a foreign one, and a file that an unwritten one has or had keeps its bytes
-pub record Stays (h : History) (name : Name) (new : Disk) : Type 0 where
-  pub lasting : is_lasting name ≡ true → (file : ℕ) → (disk_of h).names name ≡ Some file → new.names name ≡ Some file
-  pub foreign : is_foreign name ≡ true → new.names name ≡ (disk_of h).names name
-  pub bytes : is_unwritten name ≡ true → (file : ℕ) → HasHad h name file → new.files file ≡ (disk_of h).files file
-
--- so does each name
-abbrev pub NamesStay : History → LogItem → Type 0
-NamesStay h item = (name : Name) → Stays h name (applied (disk_of h) item)
-
 -- ---- nothing is lost unevicted
 
 -- while no process was stopped and no call failed, what was held is held, or the seat has an open Evict of it
@@ -71,10 +49,6 @@ abbrev pub NothingIsLost : History → LogItem → Who → Type 0
 NothingIsLost h item who = Quiet h.log → (at : Address) → IsDriver at.driver → IsHeld (disk_of h) at → IsHeld (applied (disk_of h) item) at ⊎ EvictIsOpen h.log who at
 
 -- ---- answers are earned
-
--- the disk after a first part of a history's items
-abbrev pub disk_at : History → List LogItem → Disk
-disk_at h before = disk_of (record { start = h.start; log = before })
 
 -- the seat is in an operation that the answer may end, and what it says of the operation's items is so
 pub record EndsWell (h : History) (who : Who) (answer : Answer) : Type 0 where

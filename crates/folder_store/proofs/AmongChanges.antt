@@ -20,13 +20,14 @@ use Rattle.file_log.specs.State.{disk_of}
 use Rattle.file_log.proofs.All.{seat_self}
 use Rattle.disk_laws.proofs.Tidiness.{tidy}
 use Rattle.item_frame.specs.Item.{Reads}
-use Rattle.folder_rules.specs.Changes.{with_item, may_write}
-use Rattle.folder_rules.specs.Holds.{FileReads, address, Gives}
-use Rattle.folder_rules.specs.Kinds.{folder_byte}
-use Rattle.folder_rules.specs.Operations.{is_bound}
+use Rattle.seat_rules.specs.Changes.{with_item, may_write}
+use Rattle.seat_rules.specs.Address.{address}
+use Rattle.folder_rules.specs.Holds.{FileReads, Gives}
+use Rattle.seat_rules.specs.Kinds.{folder_byte}
+use Rattle.seat_rules.specs.Operations.{is_bound}
 use Rattle.folder_rules.specs.Rules.{AnswersAreEarned, KeepsRules}
 use Rattle.folder_rules.specs.Whole.{folder_of, IsPutItem}
-use Rattle.folder_rules.proofs.Histories.{disk_then}
+use Rattle.seat_rules.proofs.Histories.{disk_then}
 use Rattle.folder_changes.specs.Own.{IsReplacing}
 use Rattle.folder_changes.proofs.Earning.{sees, meets}
 use Rattle.folder_changes.proofs.Keeping.{making_keeps, writing_keeps, installing_keeps}

@@ -16,13 +16,14 @@ use Rattle.file_log.specs.Disk.{Disk, bytes_in, file_of}
 use Rattle.file_log.specs.Effect.{applied}
 use Rattle.file_log.specs.Log.{History, is_own}
 use Rattle.file_log.specs.State.{disk_of}
-use Rattle.folder_rules.specs.Changes.{with_item}
-use Rattle.folder_rules.specs.Holds.{Address, address, Gives, IsHeld}
-use Rattle.folder_rules.specs.Kinds.{folder_byte}
-use Rattle.folder_rules.specs.Operations.{EvictIsOpen}
+use Rattle.seat_rules.specs.Changes.{with_item}
+use Rattle.seat_rules.specs.Address.{Address, address}
+use Rattle.folder_rules.specs.Holds.{Gives, IsHeld}
+use Rattle.seat_rules.specs.Kinds.{folder_byte}
+use Rattle.seat_rules.specs.Operations.{EvictIsOpen}
 use Rattle.folder_rules.specs.Rules.{AnswersAreEarned}
 use Rattle.folder_rules.specs.Whole.{folder_of}
-use Rattle.folder_rules.proofs.Histories.{disk_then}
+use Rattle.seat_rules.proofs.Histories.{disk_then}
 use Rattle.folder_changes.specs.Course.{HasSeen, HasFailed, HasTried, IsHeldOff}
 use Rattle.folder_changes.specs.Frame.{HasFolder, Leaves}
 use Rattle.folder_changes.specs.Own.{IsReplacing}

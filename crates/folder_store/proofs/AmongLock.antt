@@ -11,13 +11,12 @@ use Rattle.file_log.specs.declared.reply.Reply.TheVariants as replies
 use Rattle.file_log.specs.Disk.{Disk, made, made_at}
 use Rattle.file_log.specs.Log.{History}
 use Rattle.file_log.specs.State.{state_of, disk_of}
-use Rattle.folder_rules.specs.Changes.{with_item}
-use Rattle.folder_rules.specs.Kinds.{folder_byte}
-use Rattle.folder_rules.specs.Operations.{tries}
-use Rattle.folder_rules.specs.Rules.{disk_at}
-use Rattle.folder_rules.proofs.Courses.{inside_then}
-use Rattle.folder_rules.proofs.Histories.{disk_then}
-use Rattle.folder_rules.proofs.Trying.{tries_more}
+use Rattle.seat_rules.specs.Changes.{with_item, disk_at}
+use Rattle.seat_rules.specs.Kinds.{folder_byte}
+use Rattle.seat_rules.specs.Operations.{tries}
+use Rattle.seat_rules.proofs.Courses.{inside_then}
+use Rattle.seat_rules.proofs.Histories.{disk_then}
+use Rattle.seat_rules.proofs.Trying.{tries_more}
 use Rattle.folder_changes.specs.Course.{HasTried, IsHeldOff}
 use Rattle.folder_changes.specs.Frame.{HasFolder}
 use Rattle.folder_changes.proofs.Earning.{meets}

@@ -15,8 +15,8 @@ use Rattle.file_log.specs.Disk.{Disk, bytes_in, file_of}
 use Rattle.file_log.specs.Effect.{applied}
 use Rattle.file_log.specs.Log.{History}
 use Rattle.file_log.specs.State.{disk_of}
-use Rattle.folder_rules.specs.Changes.{with_item}
-use Rattle.folder_rules.proofs.Histories.{disk_then}
+use Rattle.seat_rules.specs.Changes.{with_item}
+use Rattle.seat_rules.proofs.Histories.{disk_then}
 use Rattle.folder_changes.specs.Own.{IsReplacing}
 use Rattle.folder_store.specs.declared.put_phase.Besides.TheVariants.{Lock}
 use Rattle.folder_store.specs.declared.put_phase.Look.{Look}

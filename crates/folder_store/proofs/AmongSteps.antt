@@ -12,10 +12,10 @@ use Rattle.file_log.specs.Operation.{IsStill}
 use Rattle.file_log.specs.State.{disk_of}
 use Rattle.file_log.proofs.All.{seat_self}
 use Rattle.files_api.specs.declared.machine.Step.{Step}
-use Rattle.folder_rules.specs.Changes.{with_item}
-use Rattle.folder_rules.specs.Operations.{is_bound}
+use Rattle.seat_rules.specs.Changes.{with_item}
+use Rattle.seat_rules.specs.Operations.{is_bound}
 use Rattle.folder_rules.specs.Rules.{AnswersAreEarned, Conforms, KeepsRules}
-use Rattle.folder_rules.proofs.Histories.{disk_then}
+use Rattle.seat_rules.proofs.Histories.{disk_then}
 use Rattle.folder_changes.specs.Course.{HasFailed}
 use Rattle.folder_changes.proofs.Earning.{meets}
 use Rattle.folder_store.specs.declared.put_phase.Besides.{Besides}

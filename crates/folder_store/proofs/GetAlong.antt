@@ -28,8 +28,8 @@ use Rattle.files_api.specs.Drive.{IsEndOf}
 use Rattle.files_api.proofs.Weave.{Inductive}
 use Rattle.item_frame.specs.Item.{Reads}
 use Rattle.item_frame.proofs.Laws.{at_most}
-use Rattle.folder_rules.specs.Changes.{with_item}
-use Rattle.folder_rules.specs.Operations.{is_bound}
+use Rattle.seat_rules.specs.Changes.{with_item}
+use Rattle.seat_rules.specs.Operations.{is_bound}
 use Rattle.folder_rules.specs.Rules.{AnswersAreEarned, KeepsRules}
 use Rattle.folder_changes.specs.Frame.{Leaves}
 use Rattle.folder_changes.proofs.Earning.{meets}

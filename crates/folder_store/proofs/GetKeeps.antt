@@ -23,11 +23,12 @@ use Rattle.file_log.specs.Seat.{course_of}
 use Rattle.file_log.specs.State.{state_of, disk_of}
 use Rattle.file_log.proofs.All.{seat_self}
 use Rattle.files_api.specs.Drive.{Runs, items_of_all, IsEndOf}
-use Rattle.folder_rules.specs.Changes.{with_item}
-use Rattle.folder_rules.specs.Holds.{address, IsHeld}
+use Rattle.seat_rules.specs.Changes.{with_item}
+use Rattle.seat_rules.specs.Address.{address}
+use Rattle.folder_rules.specs.Holds.{IsHeld}
 use Rattle.folder_rules.specs.Rules.{KeepsRules}
 use Rattle.folder_rules.specs.Whole.{folder_of}
-use Rattle.folder_rules.proofs.Histories.{goes_by}
+use Rattle.seat_rules.proofs.Histories.{goes_by}
 use Rattle.folder_store.specs.declared.get.FolderGet.{FolderGet}
 use Rattle.folder_store.specs.Keeping.{HasKept, KeepsRulesAmong, OthersKeepRules, WasLacking, AsksGet}
 use Rattle.folder_store.specs.Phases.{IsNew, asks, asked, Fed}

@@ -13,8 +13,9 @@ use Rattle.file_log.specs.declared.item.LogItem.TheVariants as items
 use Rattle.file_log.specs.Effect.{applied}
 use Rattle.file_log.specs.Log.{History}
 use Rattle.file_log.specs.State.{disk_of}
-use Rattle.folder_rules.specs.Changes.{with_item}
-use Rattle.folder_rules.specs.Holds.{Address, address, Gives, IsHeld}
+use Rattle.seat_rules.specs.Changes.{with_item}
+use Rattle.seat_rules.specs.Address.{Address, address}
+use Rattle.folder_rules.specs.Holds.{Gives, IsHeld}
 use Rattle.folder_rules.specs.Rules.{AnswersAreEarned}
 use Rattle.folder_rules.specs.Whole.{folder_of}
 use Rattle.folder_changes.specs.Course.{HasSeen, HasFailed}

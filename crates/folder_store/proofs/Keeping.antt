@@ -22,12 +22,13 @@ use Rattle.file_log.proofs.All.{seat_self}
 use Rattle.files_api.specs.declared.machine.Step.{Step}
 use Rattle.files_api.specs.declared.machine.Step.TheVariants.{Done}
 use Rattle.files_api.proofs.Weave.{Inductive, Outer, weave_operation}
-use Rattle.folder_rules.specs.Changes.{with_item}
-use Rattle.folder_rules.specs.Operations.{is_bound, IsInside}
-use Rattle.folder_rules.specs.Places.{past, Cooperating}
+use Rattle.seat_rules.specs.Changes.{with_item}
+use Rattle.seat_rules.specs.Operations.{is_bound, IsInside}
+use Rattle.seat_rules.specs.Places.{past}
+use Rattle.folder_rules.specs.Places.{Cooperating}
 use Rattle.folder_rules.specs.Rules.{AnswersAreEarned, KeepsRules}
-use Rattle.folder_rules.proofs.Along.{all_from}
-use Rattle.folder_rules.proofs.Histories.{goes_by}
+use Rattle.seat_rules.proofs.Along.{all_from}
+use Rattle.seat_rules.proofs.Histories.{goes_by}
 use Rattle.folder_changes.specs.Course.{IsWithin}
 use Rattle.folder_changes.specs.Order.{InOrder}
 use Rattle.folder_changes.proofs.Earning.{meets, earns, idle_may_begin}

@@ -38,7 +38,7 @@ use Rattle.folder_store.specs.declared.put_phase.Look.TheVariants.{First}
 use Rattle.folder_store.specs.declared.put_phase.PutPhase.{PutPhase}
 use Rattle.folder_store.specs.declared.put_phase.PutPhase.TheVariants.{Opening}
 use Rattle.folder_changes.specs.Frame.{HasFolder}
-use Rattle.folder_rules.specs.Kinds.{folder_byte}
+use Rattle.seat_rules.specs.Kinds.{folder_byte}
 use Rattle.folder_store.specs.Locking.{lock_name, MakesLockAlone, OwnMakesLockAlone, TriesLock, IsUnderLock, ChangesUnderLock}
 use Rattle.folder_store.specs.PutPhases.{asks_put, asked_put, FedPut}
 use Rattle.folder_store.proofs.Calls.{IsLooking, item_for, makes_one}

@@ -17,12 +17,12 @@ use Rattle.file_log.specs.Log.{History}
 use Rattle.file_log.specs.State.{disk_of}
 use Rattle.file_log.proofs.All.{seat_self}
 use Rattle.item_frame.specs.Item.{Reads}
-use Rattle.folder_rules.specs.Changes.{with_item, HasHad}
-use Rattle.folder_rules.specs.Holds.{Address, address, FileReads, Gives, IsHeld}
-use Rattle.folder_rules.specs.Operations.{AfterOne, IsInside}
-use Rattle.folder_rules.specs.Rules.{disk_at}
+use Rattle.seat_rules.specs.Changes.{with_item, HasHad, disk_at}
+use Rattle.seat_rules.specs.Address.{Address, address}
+use Rattle.folder_rules.specs.Holds.{FileReads, Gives, IsHeld}
+use Rattle.seat_rules.specs.Operations.{AfterOne, IsInside}
 use Rattle.folder_rules.specs.Whole.{folder_of}
-use Rattle.folder_rules.proofs.Histories.{disk_then}
+use Rattle.seat_rules.proofs.Histories.{disk_then}
 use Rattle.folder_changes.specs.Course.{HasSeen}
 use Rattle.folder_changes.specs.Frame.{Leaves}
 use Rattle.folder_changes.proofs.Earning.{sees, seen_stays}

@@ -19,7 +19,7 @@ use Rattle.files_api.specs.declared.machine.Step.TheVariants as steps
 use Rattle.files_api.specs.Drive.{IsEndOf}
 use Rattle.files_api.proofs.Weave.{Inductive}
 use Rattle.item_frame.specs.Item.{Reads}
-use Rattle.folder_rules.specs.Changes.{with_item}
+use Rattle.seat_rules.specs.Changes.{with_item}
 use Rattle.folder_rules.specs.Rules.{KeepsRules}
 use Rattle.folder_changes.specs.Frame.{Leaves}
 use Rattle.folder_changes.proofs.Framing.{others_leave}

@@ -17,8 +17,8 @@ use Rattle.disk_laws.proofs.Tidiness.{item_tidy}
 use Rattle.folder_store.specs.declared.put_phase.Besides.{Besides}
 use Rattle.folder_store.specs.declared.put_phase.Besides.TheVariants.{Lock, LockAndTemp}
 use Rattle.folder_store.specs.declared.put_phase.PutPhase.TheVariants.{Evicting, Making, Cutting, Writing, Renaming, ClosingEntry, ClosingTemp, ClosingLock, Ended}
-use Rattle.folder_rules.specs.Holds.{address}
-use Rattle.folder_rules.specs.Operations.{EvictIsOpen}
+use Rattle.seat_rules.specs.Address.{address}
+use Rattle.seat_rules.specs.Operations.{EvictIsOpen}
 use Rattle.folder_rules.specs.Whole.{folder_of}
 use Rattle.folder_store.specs.Put.{TellsReplaced}
 use Rattle.folder_store.specs.PutPhases.{closing}

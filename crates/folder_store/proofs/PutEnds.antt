@@ -31,9 +31,9 @@ use Rattle.files_api.specs.Drive.{Runs, items_of_all, IsEndOf}
 use Rattle.item_frame.specs.Item.{Reads}
 use Rattle.item_frame.proofs.Laws.{Reads-from_as, at_least}
 use Rattle.folder_store.specs.declared.put.FolderPut.{FolderPut}
-use Rattle.folder_rules.specs.Holds.{address}
-use Rattle.folder_rules.specs.Changes.{with_item}
-use Rattle.folder_rules.specs.Operations.{EvictIsOpen}
+use Rattle.seat_rules.specs.Address.{address}
+use Rattle.seat_rules.specs.Changes.{with_item}
+use Rattle.seat_rules.specs.Operations.{EvictIsOpen}
 use Rattle.folder_rules.specs.Rules.{EntriesStayWhole}
 use Rattle.folder_rules.specs.Whole.{folder_of, EntriesAreWhole}
 use Rattle.folder_store.specs.Entries.{ReplacesTold, IsSpared, OthersSpare}

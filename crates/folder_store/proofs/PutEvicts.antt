@@ -23,7 +23,7 @@ use Rattle.file_log.specs.Exchange.{Makes, Exchange, byte_items, items_done, ite
 use Rattle.files_api.specs.declared.machine.Step.{Step}
 use Rattle.files_api.specs.declared.machine.Step.TheVariants as steps
 use Rattle.files_api.specs.Drive.{Runs, items_of_all}
-use Rattle.folder_rules.specs.Changes.{with_item, is_rename}
+use Rattle.seat_rules.specs.Changes.{with_item, is_rename}
 use Rattle.folder_store.specs.declared.put.FolderPut.{FolderPut}
 use Rattle.folder_store.specs.declared.put_phase.Besides.{Besides}
 use Rattle.folder_store.specs.declared.put_phase.Besides.TheVariants.{Nothing, Lock, LockAndTemp}

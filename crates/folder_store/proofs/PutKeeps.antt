@@ -19,7 +19,7 @@ use Rattle.file_log.specs.Seat.{course_of}
 use Rattle.file_log.specs.State.{state_of, disk_of}
 use Rattle.files_api.specs.Drive.{Runs, items_of_all, IsEndOf}
 use Rattle.item_frame.specs.Item.{Reads}
-use Rattle.folder_rules.specs.Changes.{with_item}
+use Rattle.seat_rules.specs.Changes.{with_item}
 use Rattle.folder_rules.specs.Rules.{KeepsRules}
 use Rattle.folder_rules.specs.Whole.{folder_of}
 use Rattle.folder_store.specs.declared.put.FolderPut.{FolderPut}

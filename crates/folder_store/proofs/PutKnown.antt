@@ -20,8 +20,9 @@ use Rattle.folder_store.specs.declared.put_phase.Look.{Look}
 use Rattle.folder_store.specs.declared.put_phase.Look.TheVariants.{First, Second}
 use Rattle.folder_store.specs.declared.put_phase.PutPhase.{PutPhase}
 use Rattle.folder_store.specs.declared.put_phase.PutPhase.TheVariants.{Opening, Measuring, Reading, ReadingFront, Leaving, OpeningLock, Locking, Pausing, Evicting, Evicted, Making, Cutting, Writing, Renaming, ClosingEntry, ClosingTemp, ClosingLock, Ended, Spent}
-use Rattle.folder_rules.specs.Holds.{address, FileReads}
-use Rattle.folder_rules.specs.Operations.{NoEndOf, is_end_of, EvictIsOpen}
+use Rattle.seat_rules.specs.Address.{address}
+use Rattle.folder_rules.specs.Holds.{FileReads}
+use Rattle.seat_rules.specs.Operations.{NoEndOf, is_end_of, EvictIsOpen}
 use Rattle.folder_rules.specs.Whole.{folder_of, IsPutItem}
 use Rattle.folder_store.specs.Entries.{IsSpared}
 use Rattle.folder_store.specs.Put.{LeavesElsewhere, TellsReplaced}

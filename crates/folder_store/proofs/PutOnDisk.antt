@@ -15,7 +15,7 @@ use Rattle.file_log.specs.Disk.{Disk, file_of}
 use Rattle.file_log.specs.Effect.{applied}
 use Rattle.file_log.specs.Log.{History, with_items, own, is_own}
 use Rattle.file_log.specs.State.{State, disk_of}
-use Rattle.folder_rules.specs.Changes.{with_item}
+use Rattle.seat_rules.specs.Changes.{with_item}
 use Rattle.folder_rules.specs.Rules.{EntriesStayWhole}
 use Rattle.folder_rules.specs.Whole.{EntriesAreWhole}
 use Rattle.folder_store.specs.Entries.{ReplacesTold, OthersSpare}

@@ -14,7 +14,7 @@ use Rattle.file_log.specs.Disk.{Disk}
 use Rattle.file_log.specs.Log.{History, with_items, is_own, own}
 use Rattle.file_log.specs.Operation.{IsWithinRoot}
 use Rattle.file_log.specs.State.{State, first, after, state_of, disk_of}
-use Rattle.folder_rules.specs.Changes.{with_item}
+use Rattle.seat_rules.specs.Changes.{with_item}
 use Rattle.folder_store.specs.Entries.{OthersSpare}
 use Rattle.folder_store.specs.Put.{is_evict}
 use Rattle.folder_store.proofs.PutKnown.{Place, step, base_after, told_after}

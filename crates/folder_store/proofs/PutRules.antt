@@ -17,8 +17,8 @@ use Rattle.file_log.specs.Log.{is_own}
 use Rattle.file_log.specs.Operation.{IsStill}
 use Rattle.disk_laws.proofs.Locks.{own_locks}
 use Rattle.disk_laws.proofs.Tidiness.{item_tidy}
-use Rattle.folder_rules.specs.Holds.{address}
-use Rattle.folder_rules.specs.Operations.{is_end_of, EvictIsOpen}
+use Rattle.seat_rules.specs.Address.{address}
+use Rattle.seat_rules.specs.Operations.{is_end_of, EvictIsOpen}
 use Rattle.folder_rules.specs.Whole.{folder_of, IsPutItem}
 use Rattle.folder_store.specs.Locking.{lock_name, IsUnlocked}
 use Rattle.folder_store.specs.Put.{Leaves, LeavesElsewhere, TellsEvicts}

@@ -9,8 +9,8 @@ use Rattle.file_log.specs.Effect.{applied}
 use Rattle.file_log.specs.Log.{History, with_items, is_own, own}
 use Rattle.file_log.specs.Seat.{course_of}
 use Rattle.file_log.specs.State.{disk_of}
-use Rattle.folder_rules.specs.Operations.{AfterOne, GoesOn}
-use Rattle.folder_rules.proofs.Histories.{disk_further}
+use Rattle.seat_rules.specs.Operations.{AfterOne, GoesOn}
+use Rattle.seat_rules.proofs.Histories.{disk_further}
 use Rattle.folder_changes.specs.Course.{HasSeen}
 use Rattle.folder_changes.proofs.Earning.{idle_may_begin}
 

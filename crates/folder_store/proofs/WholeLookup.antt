@@ -26,7 +26,7 @@ use Rattle.folder_store.proofs.Operations.{Grows-from, Legal-front, no_fault, ne
 use Rattle.folder_store.proofs.Calls.{looks, looks_within, same_root, looks_spend}
 use Rattle.folder_store.proofs.Still.{all_as_own, looking_stays, nothing_stays}
 use Rattle.folder_store.proofs.Outcome.{outcome}
-use Rattle.folder_rules.specs.Changes.{with_item}
+use Rattle.seat_rules.specs.Changes.{with_item}
 use Rattle.folder_rules.specs.Rules.{KeepsRules}
 use Rattle.folder_store.proofs.GetKeeps.{lookup_keeps, lookup_misses}
 use Rattle.folder_store.proofs.Keeping.{IsIdleIn, unmade_keeps}

@@ -12,8 +12,8 @@ use Rattle.file_log.specs.Disk.{Disk, file_of}
 use Rattle.file_log.specs.Effect.{applied}
 use Rattle.file_log.specs.Log.{History, is_own}
 use Rattle.file_log.specs.State.{disk_of}
-use Rattle.folder_rules.specs.Holds.{address}
-use Rattle.folder_rules.specs.Operations.{EvictIsOpen}
+use Rattle.seat_rules.specs.Address.{address}
+use Rattle.seat_rules.specs.Operations.{EvictIsOpen}
 use Rattle.folder_rules.specs.Whole.{folder_of}
 
 -- ---- evictions

@@ -10,9 +10,10 @@ use Rattle.file_log.specs.Along.{All, Keeps}
 use Rattle.file_log.specs.Legal.{Legal}
 use Rattle.file_log.specs.Log.{History, is_own}
 use Rattle.file_log.specs.State.{first, disk_of}
-use Rattle.folder_rules.specs.Changes.{with_item}
-use Rattle.folder_rules.specs.Holds.{address, IsHeld}
-use Rattle.folder_rules.specs.Operations.{AfterOne}
+use Rattle.seat_rules.specs.Changes.{with_item}
+use Rattle.seat_rules.specs.Address.{address}
+use Rattle.folder_rules.specs.Holds.{IsHeld}
+use Rattle.seat_rules.specs.Operations.{AfterOne}
 use Rattle.folder_rules.specs.Places.{Cooperating}
 use Rattle.folder_rules.specs.Rules.{KeepsRules}
 use Rattle.folder_rules.specs.Whole.{folder_of}

@@ -16,7 +16,7 @@ use Rattle.file_log.specs.Legal.{is_held}
 use Rattle.file_log.specs.Log.{is_own}
 use Rattle.file_log.specs.State.{State}
 use Rattle.folder_changes.specs.Frame.{HasFolder}
-use Rattle.folder_rules.specs.Kinds.{folder_byte}
+use Rattle.seat_rules.specs.Kinds.{folder_byte}
 
 -- ---- whose lock it is
 

@@ -22,8 +22,9 @@ use Rattle.file_log.specs.Operation.{IsOperation, IsStill, is_fault}
 use Rattle.file_log.specs.State.{after, state_of, disk_of}
 use Rattle.file_log.specs.Told.{Grows, Rose}
 use Rattle.item_frame.specs.Item.{ReadsAs}
-use Rattle.folder_rules.specs.Changes.{with_item, is_rename}
-use Rattle.folder_rules.specs.Holds.{FolderHolds, address, IsHeld}
+use Rattle.seat_rules.specs.Changes.{with_item, is_rename}
+use Rattle.seat_rules.specs.Address.{address}
+use Rattle.folder_rules.specs.Holds.{FolderHolds, IsHeld}
 use Rattle.folder_rules.specs.Rules.{EntriesStayWhole}
 use Rattle.folder_rules.specs.Whole.{folder_of, EntriesAreWhole}
 use Rattle.folder_store.specs.Entries.{ReplacesTold, OthersSpare}

@@ -1,6 +1,6 @@
 ghost use Rattle.std.specs.Prelude.{◌≡◌};
 ghost use Rattle.folder_store.specs.PutPhases.{IsNewPut, changes_in, item_after, given_in, after_giving};
-ghost use Rattle.folder_rules.specs.Kinds.{folder_byte};
+ghost use Rattle.seat_rules.specs.Kinds.{folder_byte};
 
 use crate::put_phase::{Look, PutPhase};
 use crate::put_replies::next_phase;

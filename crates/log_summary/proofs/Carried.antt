@@ -17,16 +17,16 @@ use Rattle.file_log.specs.declared.item.LogItem.{LogItem}
 use Rattle.file_log.specs.declared.item.LogItem.TheVariants as items
 use Rattle.file_log.proofs.All.{seat_self}
 use Rattle.file_log.proofs.Logs.{own-append}
-use Rattle.folder_rules.specs.Answers.{root_of}
-use Rattle.folder_rules.specs.Operations.{is_bound, AfterOne, WasHeldOff}
+use Rattle.seat_rules.specs.Answers.{root_of}
+use Rattle.seat_rules.specs.Operations.{is_bound, AfterOne, WasHeldOff}
 use Rattle.log_summary.specs.Summary.{Operation, given_for, row_after, is_64th, goes_on, goes_on_if, begun, operation_after}
-use Rattle.folder_rules.proofs.Along.{past}
-use Rattle.folder_rules.proofs.Courses.{after_split, after_stays, after_now, inside_then, outside_then, outside_end, disk_now, own_other, own_mine, or_nothing, failed_then, nothing_made}
+use Rattle.seat_rules.proofs.Along.{past}
+use Rattle.seat_rules.proofs.Courses.{after_split, after_stays, after_now, inside_then, outside_then, outside_end, disk_now, own_other, own_mine, or_nothing, failed_then, nothing_made}
 use Rattle.log_summary.proofs.Seats.{same_seat_decides}
 use Rattle.log_summary.specs.Telling.{In}
 use Rattle.log_summary.proofs.Lists.{or_cases, or_left, or_right}
 use Rattle.log_summary.proofs.Streaks.{row_then, row_stays, last_is_64th, is_64th_last}
-use Rattle.folder_rules.proofs.Trying.{held_off_split, held_off_stays, held_off_now}
+use Rattle.seat_rules.proofs.Trying.{held_off_split, held_off_stays, held_off_now}
 
 -- ---- another's item leaves it
 

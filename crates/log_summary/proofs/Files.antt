@@ -15,10 +15,10 @@ use Rattle.file_log.specs.declared.item.LogItem.{LogItem}
 use Rattle.file_log.specs.declared.item.LogItem.TheVariants as items
 use Rattle.file_log.specs.declared.reply.Reply.{Reply}
 use Rattle.file_log.specs.declared.reply.Reply.TheVariants.{Done}
-use Rattle.folder_rules.specs.Changes.{HasHad}
+use Rattle.seat_rules.specs.Changes.{HasHad}
 use Rattle.log_summary.specs.Summary.{gained, gained_by, gained_new, gained_old, gained_list}
-use Rattle.folder_rules.proofs.Along.{past}
-use Rattle.folder_rules.proofs.Histories.{front_cases}
+use Rattle.seat_rules.proofs.Along.{past}
+use Rattle.seat_rules.proofs.Histories.{front_cases}
 use Rattle.log_summary.specs.Telling.{In}
 
 -- ---- files that names have had

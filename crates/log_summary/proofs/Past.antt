@@ -13,12 +13,12 @@ use Rattle.file_log.specs.Log.{WasPut, is_rough}
 use Rattle.file_log.specs.State.{disk_of}
 use Rattle.file_log.specs.declared.item.LogItem.{LogItem}
 use Rattle.file_log.specs.declared.item.LogItem.TheVariants as items
-use Rattle.folder_rules.specs.Holds.{Address}
-use Rattle.folder_rules.specs.Operations.{is_end_of, NoEndOf, EvictIsOpen}
+use Rattle.seat_rules.specs.Address.{Address}
+use Rattle.seat_rules.specs.Operations.{is_end_of, NoEndOf, EvictIsOpen}
 use Rattle.log_summary.specs.Summary.{BegunPut, OpenEvict, gained, put_in, evicting_after}
-use Rattle.folder_rules.proofs.Along.{past}
+use Rattle.seat_rules.proofs.Along.{past}
 use Rattle.log_summary.proofs.Files.{had_grows, had_now, had_split, gained_named, named_gained}
-use Rattle.folder_rules.proofs.Histories.{disk_then, quiet_then, quiet_front, quiet_rest, last_of, no_end_front, no_end_last, no_end_then}
+use Rattle.seat_rules.proofs.Histories.{disk_then, quiet_then, quiet_front, quiet_rest, last_of, no_end_front, no_end_last, no_end_then}
 use Rattle.log_summary.specs.Telling.{In}
 use Rattle.log_summary.proofs.Lists.{in_left, in_right, in_cases, in_filter, filter_in, or_neither}
 

@@ -16,11 +16,11 @@ use Rattle.file_log.specs.declared.item.LogItem.{LogItem}
 use Rattle.file_log.specs.declared.item.LogItem.TheVariants as items
 use Rattle.file_log.specs.declared.reply.Reply.{Reply}
 use Rattle.file_log.specs.declared.reply.Reply.TheVariants.{Held}
-use Rattle.folder_rules.specs.Kinds.{is_lock_of}
-use Rattle.folder_rules.specs.Operations.{is_file, tried, tries}
+use Rattle.seat_rules.specs.Kinds.{is_lock_of}
+use Rattle.seat_rules.specs.Operations.{is_file, tried, tries}
 use Rattle.log_summary.specs.Summary.{is_held_reply, row_after, is_lock_file, is_last_try, is_64th}
 use Rattle.log_summary.proofs.Seats.{same_seat_decides}
-use Rattle.folder_rules.proofs.Trying.{tries_more, tried_other, IsLast}
+use Rattle.seat_rules.proofs.Trying.{tries_more, tried_other, IsLast}
 use Rattle.log_summary.specs.Telling.{In}
 use Rattle.log_summary.proofs.Lists.{and_parts, and_both, any_in, any_from}
 

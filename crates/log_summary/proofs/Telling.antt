@@ -5,11 +5,11 @@ use Rattle.std.proofs.lemmas.List.Sums.{fold-append}
 use Rattle.cache_types.specs.declared.name.Name.{Name}
 use Rattle.file_log.specs.State.{State, first, after, disk_of}
 use Rattle.file_log.specs.declared.item.LogItem.{LogItem}
-use Rattle.folder_rules.specs.Changes.{HasHad}
+use Rattle.seat_rules.specs.Changes.{HasHad}
 use Rattle.log_summary.specs.Summary.{Summary, nothing, summed, summary_of}
-use Rattle.folder_rules.proofs.Along.{past}
+use Rattle.seat_rules.proofs.Along.{past}
 use Rattle.log_summary.proofs.Carried.{carried_then}
-use Rattle.folder_rules.proofs.Courses.{nothing_made}
+use Rattle.seat_rules.proofs.Courses.{nothing_made}
 use Rattle.log_summary.proofs.Files.{had_now}
 use Rattle.log_summary.specs.Telling.{In}
 use Rattle.log_summary.proofs.Past.{files_then, puts_then, evicts_then, calm_then}

@@ -24,10 +24,10 @@ use Rattle.file_log.specs.declared.reply.Reply.{Reply}
 use Rattle.file_log.specs.declared.reply.Reply.TheVariants.{Done, Held}
 use Rattle.item_frame.specs.Reading.{item_at}
 use Rattle.item_frame.specs.declared.refusal.ItemRefusal.{ItemRefusal}
-use Rattle.folder_rules.specs.Answers.{root_of}
-use Rattle.folder_rules.specs.Holds.{Address, address}
-use Rattle.folder_rules.specs.Kinds.{is_lock_of}
-use Rattle.folder_rules.specs.Operations.{is_file}
+use Rattle.seat_rules.specs.Answers.{root_of}
+use Rattle.seat_rules.specs.Address.{Address, address}
+use Rattle.seat_rules.specs.Kinds.{is_lock_of}
+use Rattle.seat_rules.specs.Operations.{is_file}
 
 -- a put that began: its address and its blob
 pub record BegunPut : Type 0 where

@@ -11,11 +11,11 @@ use Rattle.file_log.specs.State.{state_of, disk_of}
 use Rattle.file_log.specs.declared.item.LogItem.{LogItem}
 use Rattle.file_log.specs.declared.item.LogItem.TheVariants as items
 use Rattle.file_log.specs.declared.reply.Reply.{Reply}
-use Rattle.folder_rules.specs.Answers.{root_of}
-use Rattle.folder_rules.specs.Changes.{HasHad}
-use Rattle.folder_rules.specs.Holds.{Address}
-use Rattle.folder_rules.specs.Operations.{IsInside, AfterOne, EvictIsOpen, tries, WasHeldOff}
-use Rattle.folder_rules.specs.Places.{past}
+use Rattle.seat_rules.specs.Answers.{root_of}
+use Rattle.seat_rules.specs.Changes.{HasHad}
+use Rattle.seat_rules.specs.Address.{Address}
+use Rattle.seat_rules.specs.Operations.{IsInside, AfterOne, EvictIsOpen, tries, WasHeldOff}
+use Rattle.seat_rules.specs.Places.{past}
 use Rattle.log_summary.specs.Summary.{BegunPut, OpenEvict, Operation, Summary, summary_of, given_for, is_held_reply}
 
 -- a member of a list

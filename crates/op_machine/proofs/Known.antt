@@ -17,8 +17,8 @@ use Rattle.files_api.specs.declared.machine.Step.TheVariants.{Ask, Done}
 use Rattle.files_api.specs.Drive.{IsEndOf}
 use Rattle.files_api.proofs.Weave.{Inductive}
 use Rattle.item_frame.specs.Item.{Reads}
-use Rattle.folder_rules.specs.Changes.{with_item}
-use Rattle.folder_rules.specs.Operations.{IsInside}
+use Rattle.seat_rules.specs.Changes.{with_item}
+use Rattle.seat_rules.specs.Operations.{IsInside}
 use Rattle.folder_rules.specs.Rules.{AnswersAreEarned, KeepsRules}
 use Rattle.folder_changes.proofs.Earning.{earns}
 use Rattle.folder_store.specs.declared.get.FolderGet.{FolderGet}

@@ -15,10 +15,10 @@ use Rattle.file_log.specs.Along.{All, Keeps}
 use Rattle.file_log.specs.Disk.{Start}
 use Rattle.file_log.specs.Log.{History}
 use Rattle.file_log.specs.Told.{Grows}
-use Rattle.folder_rules.specs.Changes.{with_item}
-use Rattle.folder_rules.specs.Places.{past}
+use Rattle.seat_rules.specs.Changes.{with_item}
+use Rattle.seat_rules.specs.Places.{past}
 use Rattle.folder_rules.specs.Rules.{KeepsRules}
-use Rattle.folder_rules.proofs.Histories.{goes_by}
+use Rattle.seat_rules.proofs.Histories.{goes_by}
 use Rattle.folder_rules.proofs.Placing.{hold_along}
 use Rattle.folder_store.specs.Keeping.{HasKept, KeepsRulesAmong, AsksGet}
 use Rattle.folder_store.proofs.Operations.{Grows-map}

@@ -18,9 +18,9 @@ use Rattle.file_log.proofs.All.{none_keeps}
 use Rattle.files_api.specs.declared.machine.Step.TheVariants.{Ask}
 use Rattle.files_api.specs.Drive.{Runs, items_of_all, IsEndOf, Refused, Unmade, Operated}
 use Rattle.folder_changes.proofs.Earning.{earns}
-use Rattle.folder_rules.specs.Answers.{is_too_large}
-use Rattle.folder_rules.specs.Changes.{with_item}
-use Rattle.folder_rules.specs.Operations.{IsInside}
+use Rattle.seat_rules.specs.Answers.{is_too_large}
+use Rattle.seat_rules.specs.Changes.{with_item}
+use Rattle.seat_rules.specs.Operations.{IsInside}
 use Rattle.folder_rules.specs.Rules.{AnswersAreEarned, KeepsRules}
 use Rattle.folder_store.proofs.Calls.{done_is, not_ask}
 use Rattle.folder_store.proofs.Keeping.{IsIdleIn, order_of, no_calls_keep, unmade_keeps}

@@ -12,8 +12,8 @@ use Rattle.file_log.specs.declared.item.LogItem.{LogItem}
 use Rattle.file_log.specs.declared.item.LogItem.TheVariants as items
 use Rattle.file_log.specs.declared.reply.Reply.{Reply}
 use Rattle.file_log.specs.declared.reply.Reply.TheVariants.{Done, Held}
-use Rattle.folder_rules.specs.Answers.{root_of}
-use Rattle.folder_rules.specs.Kinds.{is_entry}
+use Rattle.seat_rules.specs.Answers.{root_of}
+use Rattle.seat_rules.specs.Kinds.{is_entry}
 use Rattle.log_summary.specs.Summary.{Operation, Summary, begun, gained, given_for, goes_on, is_64th, is_last_try, row_after}
 use Rattle.rule_checks.specs.Tests.{same_blob, same_number, keep_bytes}
 use Rattle.rule_checks.proofs.Deciding.{same_number_decides, keep_decides}

@@ -12,8 +12,8 @@ use Rattle.cache_types.specs.declared.store.Layout.TheVariants.{Folder, Database
 use Rattle.file_log.specs.Disk.{Disk}
 use Rattle.file_log.specs.Effect.{applied}
 use Rattle.file_log.specs.declared.item.LogItem.{LogItem}
-use Rattle.folder_rules.specs.Kinds.{is_lock_of}
-use Rattle.folder_rules.specs.Operations.{is_file}
+use Rattle.seat_rules.specs.Kinds.{is_lock_of}
+use Rattle.seat_rules.specs.Operations.{is_file}
 use Rattle.log_summary.specs.Summary.{gained, is_lock_file}
 use Rattle.log_summary.specs.Telling.{In}
 use Rattle.log_summary.proofs.Files.{named_gained}

@@ -7,7 +7,7 @@ use Rattle.cache_types.specs.declared.name.Name.{Name}
 use Rattle.cache_types.specs.declared.request.Request.{Request}
 use Rattle.cache_types.specs.declared.request.Request.TheVariants as requests
 use Rattle.file_log.specs.Disk.{Disk}
-use Rattle.folder_rules.specs.Answers.{may_end}
+use Rattle.seat_rules.specs.Answers.{may_end}
 use Rattle.log_summary.specs.Summary.{Operation, given_for}
 use Rattle.rule_checks.specs.Tests.{same_blob, says_true, ends_well}
 use Rattle.operation_ledger.specs.declared.given.Lately.{Lately}

@@ -11,7 +11,7 @@ use Rattle.file_log.specs.Effect.{applied}
 use Rattle.file_log.specs.Log.{seat_of, is_seat, is_own}
 use Rattle.file_log.specs.declared.item.LogItem.{LogItem}
 use Rattle.file_log.specs.declared.item.LogItem.TheVariants as items
-use Rattle.folder_rules.specs.Kinds.{is_entry}
+use Rattle.seat_rules.specs.Kinds.{is_entry}
 use Rattle.log_summary.specs.Summary.{Operation, Summary, summed, begun, gained, goes_on, goes_on_if, operation_after}
 use Rattle.log_summary.proofs.Seats.{same_seat_decides}
 use Rattle.rule_checks.specs.Tests.{keep_bytes}

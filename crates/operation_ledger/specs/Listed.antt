@@ -2,7 +2,7 @@
 use Rattle.std.specs.Prelude.{◌≡◌, ℕ, true, List, Option, Some, None}
 use Rattle.cache_types.specs.declared.name.Name.{Name}
 use Rattle.file_log.specs.Disk.{Disk}
-use Rattle.folder_rules.specs.Kinds.{is_entry}
+use Rattle.seat_rules.specs.Kinds.{is_entry}
 use Rattle.log_summary.specs.Telling.{In}
 
 -- each file that a name has is among those that names have had

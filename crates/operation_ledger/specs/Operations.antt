@@ -8,7 +8,7 @@ use Rattle.cache_types.specs.declared.seat.Who.{Who}
 use Rattle.file_log.specs.Disk.{Disk, bytes_in}
 use Rattle.file_log.specs.Effect.{applied}
 use Rattle.file_log.specs.declared.item.LogItem.{LogItem}
-use Rattle.folder_rules.specs.Kinds.{is_entry}
+use Rattle.seat_rules.specs.Kinds.{is_entry}
 use Rattle.log_summary.specs.Summary.{Operation, Summary, gained, given_for, goes_on_if}
 use Rattle.operation_ledger.specs.Entries.{entry_of, read_by}
 use Rattle.operation_ledger.specs.Given.{Learns}

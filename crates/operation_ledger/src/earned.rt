@@ -2,7 +2,7 @@
 
 ghost use Rattle.std.specs.Prelude.{◌≡◌, ℕ, List, Some, IfOk};
 ghost use Rattle.cache_types.specs.declared.name.Name.{Name};
-ghost use Rattle.folder_rules.specs.Answers.{may_end as the_end, may_evict as the_evict, ends_any as any_end, is_database as database, is_foz as foz, is_too_large as too_large};
+ghost use Rattle.seat_rules.specs.Answers.{may_end as the_end, may_evict as the_evict, ends_any as any_end, is_database as database, is_foz as foz, is_too_large as too_large};
 ghost use Rattle.log_summary.specs.Summary.{Operation};
 ghost use Rattle.operation_ledger.specs.Given.{with_lately};
 ghost use Rattle.operation_ledger.specs.Operations.{Holds};

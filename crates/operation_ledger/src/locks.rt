@@ -3,9 +3,9 @@
 ghost use Rattle.std.specs.Prelude.{◌≡◌, ◌&&◌, ℕ, List};
 ghost use Rattle.std.specs.List.{list_any};
 ghost use Rattle.cache_types.specs.declared.name.Name.{Name};
-ghost use Rattle.folder_rules.specs.Answers.{root_of as the_root};
-ghost use Rattle.folder_rules.specs.Kinds.{is_lock_of as the_lock};
-ghost use Rattle.folder_rules.specs.Operations.{is_file};
+ghost use Rattle.seat_rules.specs.Answers.{root_of as the_root};
+ghost use Rattle.seat_rules.specs.Kinds.{is_lock_of as the_lock};
+ghost use Rattle.seat_rules.specs.Operations.{is_file};
 ghost use Rattle.log_summary.specs.Summary.{is_lock_file as the_lock_file};
 ghost use Rattle.operation_ledger.specs.Had.{IsNamesHad};
 ghost use Rattle.operation_ledger.specs.Listed.{AreListed};

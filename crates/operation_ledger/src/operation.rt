@@ -6,7 +6,7 @@ ghost use Rattle.file_log.specs.Effect.{applied};
 ghost use Rattle.file_log.specs.Operation.{is_fault as the_fault};
 ghost use Rattle.file_log.specs.declared.call.Call.TheVariants.{TryLock};
 ghost use Rattle.file_log.specs.declared.item.LogItem.TheVariants.{Did};
-ghost use Rattle.folder_rules.specs.Answers.{root_of as the_root};
+ghost use Rattle.seat_rules.specs.Answers.{root_of as the_root};
 ghost use Rattle.log_summary.specs.Summary.{Operation, Summary, begun, goes_on, is_64th, is_held_reply, is_last_try, row_after, summed};
 ghost use Rattle.rule_checks.specs.Tests.{same_number};
 

@@ -13,10 +13,10 @@ use Rattle.disk_laws.specs.Tidy.{IsTidy}
 use Rattle.file_log.specs.Disk.{Disk, file_of}
 use Rattle.file_log.specs.Effect.{applied}
 use Rattle.file_log.specs.declared.item.LogItem.{LogItem}
-use Rattle.folder_rules.specs.Changes.{may_write}
-use Rattle.folder_rules.specs.Holds.{Address}
-use Rattle.folder_rules.specs.Kinds.{is_entry, is_unwritten}
-use Rattle.folder_rules.specs.Rules.{IsLeft}
+use Rattle.seat_rules.specs.Changes.{may_write}
+use Rattle.seat_rules.specs.Address.{Address}
+use Rattle.seat_rules.specs.Kinds.{is_entry, is_unwritten}
+use Rattle.seat_rules.specs.Rules.{IsLeft}
 use Rattle.folder_rules.proofs.Entries.{entry_of}
 use Rattle.folder_changes.proofs.Changing.{file_same}
 use Rattle.log_summary.specs.Summary.{BegunPut, OpenEvict, Summary, put_in, read_for, given_by}

@@ -18,7 +18,7 @@ use Rattle.file_log.specs.declared.item.LogItem.{LogItem}
 use Rattle.file_log.specs.declared.item.LogItem.TheVariants as items
 use Rattle.file_log.specs.declared.reply.Reply.{Reply}
 use Rattle.file_log.specs.declared.reply.Reply.TheVariants.{Done}
-use Rattle.folder_rules.proofs.Entries.{apart}
+use Rattle.seat_rules.proofs.Unseated.{apart}
 use Rattle.folder_changes.proofs.Changing.{same_self, one_or_other}
 use Rattle.log_summary.specs.Summary.{Summary}
 use Rattle.log_summary.proofs.Lists.{or_cases, or_left, or_right, and_parts, and_both}

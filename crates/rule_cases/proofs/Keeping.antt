@@ -9,8 +9,8 @@ use Rattle.file_log.specs.Effect.{applied}
 use Rattle.file_log.specs.Log.{seat_of}
 use Rattle.file_log.specs.declared.item.LogItem.{LogItem}
 use Rattle.file_log.specs.declared.item.LogItem.TheVariants as items
-use Rattle.folder_rules.specs.Kinds.{is_entry}
-use Rattle.folder_rules.proofs.Entries.{apart}
+use Rattle.seat_rules.specs.Kinds.{is_entry}
+use Rattle.seat_rules.proofs.Unseated.{apart}
 use Rattle.log_summary.specs.Summary.{Summary, nothing, summed, summary_of}
 use Rattle.rule_checks.specs.Tests.{keep_bytes}
 use Rattle.rule_checks.proofs.Deciding.{keep_decides}

@@ -9,7 +9,7 @@ use Rattle.cache_types.specs.declared.store.Layout.{Layout}
 use Rattle.cache_types.specs.declared.store.Layout.TheVariants.{Folder}
 use Rattle.cache_types.specs.declared.store.Store.{Store}
 use Rattle.file_log.specs.Disk.{Disk, file_of}
-use Rattle.folder_rules.specs.Holds.{Address}
+use Rattle.seat_rules.specs.Address.{Address}
 use Rattle.folder_rules.specs.Whole.{folder_of}
 use Rattle.folder_rules.proofs.Entries.{entry_of}
 use Rattle.folder_changes.proofs.Changing.{one_or_other}

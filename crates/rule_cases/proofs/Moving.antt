@@ -8,9 +8,9 @@ use Rattle.cache_types.specs.declared.name.Name.TheVariants as names
 use Rattle.cache_types.specs.declared.seat.Who.{Who}
 use Rattle.file_log.specs.Disk.{Disk}
 use Rattle.file_log.specs.declared.item.LogItem.{LogItem}
-use Rattle.folder_rules.specs.Changes.{may_write}
-use Rattle.folder_rules.specs.Kinds.{is_entry, comes_guarded, is_lasting, is_foreign}
-use Rattle.folder_rules.specs.Rules.{IsLeft}
+use Rattle.seat_rules.specs.Changes.{may_write}
+use Rattle.seat_rules.specs.Kinds.{is_entry, comes_guarded, is_lasting, is_foreign}
+use Rattle.seat_rules.specs.Rules.{IsLeft}
 use Rattle.folder_changes.proofs.Changing.{same_self, one_or_other, none_is_no_file, some_is}
 use Rattle.log_summary.specs.Summary.{Summary}
 use Rattle.log_summary.proofs.Lists.{and_parts, and_both}

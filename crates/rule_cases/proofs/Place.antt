@@ -13,10 +13,11 @@ use Rattle.file_log.specs.Legal.{Legal}
 use Rattle.file_log.specs.Log.{History, seat_of}
 use Rattle.file_log.specs.State.{State, first, disk_of}
 use Rattle.file_log.specs.declared.item.LogItem.{LogItem}
-use Rattle.folder_rules.specs.Changes.{HasHad}
-use Rattle.folder_rules.specs.Places.{past, KeepsAt}
+use Rattle.seat_rules.specs.Changes.{HasHad}
+use Rattle.seat_rules.specs.Places.{past}
+use Rattle.folder_rules.specs.Places.{KeepsAt}
 use Rattle.folder_rules.proofs.Entries.{unseated_file}
-use Rattle.folder_rules.proofs.Histories.{disk_further}
+use Rattle.seat_rules.proofs.Histories.{disk_further}
 use Rattle.folder_changes.proofs.Changing.{count_grows}
 use Rattle.log_summary.specs.Summary.{Summary, nothing, put_in, summed, summary_of}
 use Rattle.log_summary.proofs.Files.{had_now}

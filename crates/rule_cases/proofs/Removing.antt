@@ -8,9 +8,9 @@ use Rattle.cache_types.specs.declared.name.Name.TheVariants as names
 use Rattle.cache_types.specs.declared.seat.Who.{Who}
 use Rattle.file_log.specs.Disk.{Disk, file_of, bytes_in}
 use Rattle.file_log.specs.declared.item.LogItem.{LogItem}
-use Rattle.folder_rules.specs.Changes.{has_lock, may_write, is_rename_of}
-use Rattle.folder_rules.specs.Kinds.{folder_byte, is_entry}
-use Rattle.folder_rules.specs.Rules.{IsLeft}
+use Rattle.seat_rules.specs.Changes.{has_lock, may_write, is_rename_of}
+use Rattle.seat_rules.specs.Kinds.{folder_byte, is_entry}
+use Rattle.seat_rules.specs.Rules.{IsLeft}
 use Rattle.folder_changes.proofs.Changing.{one_or_other, none_is_no_file}
 use Rattle.log_summary.specs.Summary.{Summary, put_in}
 use Rattle.log_summary.proofs.Lists.{and_parts, and_both}

@@ -12,9 +12,9 @@ use Rattle.file_log.specs.declared.call.Call.TheVariants.{Rename}
 use Rattle.file_log.specs.declared.item.LogItem.{LogItem}
 use Rattle.file_log.specs.declared.item.LogItem.TheVariants.{Did}
 use Rattle.file_log.specs.declared.reply.Reply.TheVariants.{Done}
-use Rattle.folder_rules.specs.Changes.{has_lock, may_write, is_rename}
-use Rattle.folder_rules.specs.Kinds.{folder_byte, is_entry}
-use Rattle.folder_rules.specs.Rules.{IsLeft}
+use Rattle.seat_rules.specs.Changes.{has_lock, may_write, is_rename}
+use Rattle.seat_rules.specs.Kinds.{folder_byte, is_entry}
+use Rattle.seat_rules.specs.Rules.{IsLeft}
 use Rattle.folder_changes.proofs.Changing.{same_self, one_or_other, none_is_no_file}
 use Rattle.log_summary.specs.Summary.{BegunPut, Summary, put_in}
 use Rattle.log_summary.proofs.Lists.{and_parts, and_both}

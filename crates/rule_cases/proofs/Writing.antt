@@ -8,9 +8,9 @@ use Rattle.cache_types.specs.declared.name.Name.TheVariants as names
 use Rattle.cache_types.specs.declared.seat.Who.{Who}
 use Rattle.file_log.specs.Disk.{Disk}
 use Rattle.file_log.specs.declared.item.LogItem.{LogItem}
-use Rattle.folder_rules.specs.Changes.{may_write}
-use Rattle.folder_rules.specs.Kinds.{is_entry, is_unwritten}
-use Rattle.folder_rules.specs.Operations.{is_file}
+use Rattle.seat_rules.specs.Changes.{may_write}
+use Rattle.seat_rules.specs.Kinds.{is_entry, is_unwritten}
+use Rattle.seat_rules.specs.Operations.{is_file}
 use Rattle.log_summary.specs.Summary.{Summary}
 use Rattle.log_summary.specs.Telling.{In}
 use Rattle.log_summary.proofs.Lists.{and_parts, and_both, all_in, all_out}

@@ -17,9 +17,9 @@ use Rattle.file_log.specs.declared.item.LogItem.{LogItem}
 use Rattle.file_log.specs.declared.item.LogItem.TheVariants as items
 use Rattle.file_log.specs.declared.reply.Reply.{Reply}
 use Rattle.file_log.specs.declared.reply.Reply.TheVariants.{Done}
-use Rattle.folder_rules.specs.Changes.{has_lock, may_write}
-use Rattle.folder_rules.specs.Kinds.{folder_byte, is_entry, is_temporary, comes_guarded, is_lasting, is_foreign, is_unwritten}
-use Rattle.folder_rules.specs.Operations.{is_file}
+use Rattle.seat_rules.specs.Changes.{has_lock, may_write}
+use Rattle.seat_rules.specs.Kinds.{folder_byte, is_entry, is_temporary, comes_guarded, is_lasting, is_foreign, is_unwritten}
+use Rattle.seat_rules.specs.Operations.{is_file}
 use Rattle.folder_rules.specs.Whole.{folder_of}
 use Rattle.log_summary.specs.Summary.{BegunPut, Summary, read_for}
 use Rattle.rule_checks.specs.Tests.{implies, same_store, same_key, is_item_of, evicts, is_earned}

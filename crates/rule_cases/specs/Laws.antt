@@ -6,7 +6,7 @@ use Rattle.file_log.specs.Along.{All, Keeps}
 use Rattle.file_log.specs.Effect.{applied}
 use Rattle.file_log.specs.Legal.{Legal}
 use Rattle.file_log.specs.State.{first}
-use Rattle.folder_rules.specs.Kinds.{is_entry}
+use Rattle.seat_rules.specs.Kinds.{is_entry}
 use Rattle.folder_rules.specs.Places.{KeepsAt, Cooperating, KeepsBy}
 use Rattle.log_summary.specs.Summary.{Summary, nothing, summed, summary_of}
 use Rattle.rule_checks.specs.Tests.{keep_bytes}

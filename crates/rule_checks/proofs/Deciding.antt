@@ -14,10 +14,10 @@ use Rattle.cache_types.specs.declared.store.Layout.TheVariants.{Folder, Database
 use Rattle.cache_types.specs.declared.store.Store.{Store}
 use Rattle.file_log.specs.Disk.{Disk}
 use Rattle.file_log.specs.declared.item.LogItem.{LogItem}
-use Rattle.folder_rules.specs.Changes.{has_lock, may_write, is_rename, is_rename_of}
-use Rattle.folder_rules.specs.Holds.{Address}
-use Rattle.folder_rules.specs.Kinds.{folder_byte, is_temporary, comes_guarded, is_lasting, is_foreign}
-use Rattle.folder_rules.specs.Rules.{IsLeft}
+use Rattle.seat_rules.specs.Changes.{has_lock, may_write, is_rename, is_rename_of}
+use Rattle.seat_rules.specs.Address.{Address}
+use Rattle.seat_rules.specs.Kinds.{folder_byte, is_temporary, comes_guarded, is_lasting, is_foreign}
+use Rattle.seat_rules.specs.Rules.{IsLeft}
 use Rattle.rule_checks.specs.Tests.{implies, same_number, same_blob, same_layout, same_store, same_driver, same_key, same_address, keeps_bytes_of, had_before, has_still, keep_bytes, left_at, guarded_at, renamed_at, stays_at}
 use Rattle.log_summary.specs.Telling.{In}
 use Rattle.log_summary.proofs.Lists.{all_in, all_out}

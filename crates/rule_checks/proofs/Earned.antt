@@ -17,19 +17,22 @@ use Rattle.file_log.specs.State.{State, first, disk_of}
 use Rattle.file_log.specs.declared.item.LogItem.{LogItem}
 use Rattle.file_log.specs.declared.item.LogItem.TheVariants as items
 use Rattle.file_log.proofs.All.{seat_self}
-use Rattle.folder_rules.specs.Answers.{root_of, may_evict, IsEarned}
-use Rattle.folder_rules.specs.Holds.{Address, address, Gives, IsHeld}
-use Rattle.folder_rules.specs.Operations.{IsInside, AfterOne, WasHeldOff}
+use Rattle.seat_rules.specs.Answers.{root_of, may_evict}
+use Rattle.folder_rules.specs.Answers.{IsEarned}
+use Rattle.seat_rules.specs.Address.{Address, address}
+use Rattle.folder_rules.specs.Holds.{Gives, IsHeld}
+use Rattle.seat_rules.specs.Operations.{IsInside, AfterOne, WasHeldOff}
 use Rattle.folder_rules.specs.Rules.{EndsWell, AnswersAreEarned}
 use Rattle.log_summary.specs.Summary.{Operation, Summary, given, given_for}
 use Rattle.rule_checks.specs.Tests.{same_blob, says_true, ends_well, evicts_well, is_earned}
-use Rattle.folder_rules.proofs.Along.{past}
+use Rattle.seat_rules.proofs.Along.{past}
 use Rattle.log_summary.specs.Telling.{TellsOperation, TellsInside}
 use Rattle.log_summary.proofs.Carried.{gave_then}
-use Rattle.folder_rules.proofs.Courses.{IsOutside, disk_now, failed_then, or_nothing}
-use Rattle.folder_rules.proofs.Trying.{held_off_split, held_off_stays}
+use Rattle.seat_rules.proofs.Courses.{IsOutside, disk_now, failed_then, or_nothing}
+use Rattle.seat_rules.proofs.Trying.{held_off_split, held_off_stays}
 use Rattle.rule_checks.proofs.Deciding.{same_blob_decides}
-use Rattle.folder_rules.proofs.Inside.{one_inside, earned_at}
+use Rattle.seat_rules.proofs.Inside.{one_inside}
+use Rattle.folder_rules.proofs.Earning.{earned_at}
 use Rattle.log_summary.specs.Telling.{TellsCalm}
 use Rattle.rule_checks.proofs.Reading.{AllFit, all_fit, after_fits, gives_from, gives_to, held_from, held_to, none_from, none_to}
 use Rattle.log_summary.specs.Telling.{Tells}

@@ -9,18 +9,18 @@ use Rattle.file_log.specs.Legal.{IsLegal, Legal}
 use Rattle.file_log.specs.Log.{seat_of}
 use Rattle.file_log.specs.State.{first, after, disk_of}
 use Rattle.file_log.specs.declared.item.LogItem.{LogItem}
-use Rattle.folder_rules.specs.Changes.{with_item}
+use Rattle.seat_rules.specs.Changes.{with_item}
 use Rattle.rule_checks.specs.Laws.{AreDecided, AreDecidedAlong}
 use Rattle.folder_rules.specs.Places.{KeepsAt}
 use Rattle.folder_rules.specs.Rules.{KeepsRules}
 use Rattle.log_summary.specs.Summary.{Summary, nothing, summed, summary_of}
 use Rattle.rule_checks.specs.Tests.{PassesTests}
 use Rattle.folder_rules.specs.Whole.{EntriesAreWhole, folder_of}
-use Rattle.folder_rules.proofs.Along.{past, parts_at, all_from, all_split}
+use Rattle.seat_rules.proofs.Along.{past, parts_at, all_from, all_split}
 use Rattle.folder_rules.proofs.Entries.{unseated_file}
-use Rattle.folder_rules.proofs.Histories.{disk_then}
-use Rattle.folder_rules.proofs.Placing.{all_hold, keeps_hold, hold_keeps}
-use Rattle.folder_rules.proofs.Puts.{put_goes_on}
+use Rattle.seat_rules.proofs.Histories.{disk_then}
+use Rattle.folder_rules.proofs.Placing.{hold_along}
+use Rattle.seat_rules.proofs.Puts.{put_goes_on}
 use Rattle.log_summary.specs.Telling.{Tells}
 use Rattle.log_summary.proofs.Telling.{tells, tells_then}
 use Rattle.rule_checks.proofs.Ties.{tests_decide}
@@ -106,11 +106,11 @@ keeps_decided who before (x ∷ log) s legal t whole =
 pub decided_along : AreDecidedAlong
 decided_along log legal = (
   (
-    λ passes. all_hold [] log ((all_decided [] log nothing legal (tells []) whole_first).0 passes),
+    λ passes. (hold_along log).0.1 ((all_decided [] log nothing legal (tells []) whole_first).0 passes),
     λ keeps. (all_decided [] log nothing legal (tells []) whole_first).1 (all_from KeepsRules log [] log [] (sym (append-nil log)) keeps),
   ),
   λ who. (
-    λ passes. keeps_hold who [] log ((keeps_decided who [] log nothing legal (tells []) whole_first).0 passes),
-    λ keeps. (keeps_decided who [] log nothing legal (tells []) whole_first).1 (hold_keeps who [] log keeps),
+    λ passes. ((hold_along log).1 who).1 ((keeps_decided who [] log nothing legal (tells []) whole_first).0 passes),
+    λ keeps. (keeps_decided who [] log nothing legal (tells []) whole_first).1 (((hold_along log).1 who).0 keeps),
   ),
 )

@@ -26,11 +26,12 @@ use Rattle.item_frame.specs.Reading.{item_at}
 use Rattle.item_frame.specs.declared.refusal.ItemRefusal.{ItemRefusal}
 use Rattle.item_frame.proofs.Laws.{Reads-from_item_at, item_at-reads}
 use Rattle.item_frame.proofs.Numbers.{IsBytes}
-use Rattle.folder_rules.specs.Holds.{Address, FileReads, GivesBy, Gives, IsHeld}
-use Rattle.folder_rules.specs.Operations.{AfterOne}
+use Rattle.seat_rules.specs.Address.{Address}
+use Rattle.folder_rules.specs.Holds.{FileReads, GivesBy, Gives, IsHeld}
+use Rattle.seat_rules.specs.Operations.{AfterOne}
 use Rattle.log_summary.specs.Summary.{read_part, read_for, given_by, given}
 use Rattle.rule_checks.specs.Tests.{is_held}
-use Rattle.folder_rules.proofs.Along.{past, all_split}
+use Rattle.seat_rules.proofs.Along.{past, all_split}
 
 -- ---- bytes
 

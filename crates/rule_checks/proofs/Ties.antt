@@ -18,20 +18,22 @@ use Rattle.file_log.specs.State.{State, first, state_of, disk_of}
 use Rattle.file_log.specs.declared.item.LogItem.{LogItem}
 use Rattle.file_log.specs.declared.item.LogItem.TheVariants as items
 use Rattle.item_frame.proofs.Numbers.{IsBytes}
-use Rattle.folder_rules.specs.Holds.{Address, IsHeld}
-use Rattle.folder_rules.specs.Kinds.{is_entry, is_unwritten}
-use Rattle.folder_rules.specs.Operations.{EvictIsOpen}
+use Rattle.seat_rules.specs.Address.{Address}
+use Rattle.folder_rules.specs.Holds.{IsHeld}
+use Rattle.seat_rules.specs.Kinds.{is_entry, is_unwritten}
+use Rattle.seat_rules.specs.Operations.{EvictIsOpen}
 use Rattle.folder_rules.specs.Rules.{Conforms, KeepsRules}
 use Rattle.log_summary.specs.Summary.{BegunPut, OpenEvict, Summary, put_in, read_for}
 use Rattle.cache_types.specs.Seats.{same_seat}
 use Rattle.rule_checks.specs.Tests.{same_store, same_key, same_blob, same_address, is_item_of, is_whole, is_held, evicts, kept_at, kept, Passes, PassesTests}
 use Rattle.folder_rules.specs.Whole.{folder_of, IsPutItem, EntriesAreWhole}
-use Rattle.folder_rules.proofs.Along.{past}
+use Rattle.seat_rules.proofs.Along.{past}
 use Rattle.rule_checks.proofs.Deciding.{same_blob_decides, same_store_decides, same_key_decides, same_address_decides, implies_decides, guarded_decides, renamed_decides, stays_decides, keep_decides}
 use Rattle.log_summary.proofs.Seats.{same_seat_decides}
 use Rattle.rule_checks.proofs.Earned.{earned_decides}
-use Rattle.folder_rules.proofs.Histories.{disk_then}
-use Rattle.folder_rules.proofs.Puts.{fits_in, gives_put}
+use Rattle.seat_rules.proofs.Histories.{disk_then}
+use Rattle.seat_rules.proofs.Puts.{fits_in}
+use Rattle.folder_rules.proofs.Puts.{gives_put}
 use Rattle.log_summary.specs.Telling.{In}
 use Rattle.log_summary.proofs.Lists.{and_parts, and_both, or_cases, or_left, or_right, any_in, any_from, all_in, all_out}
 use Rattle.log_summary.specs.Telling.{ListsPuts, ListsEvicts, TellsCalm}

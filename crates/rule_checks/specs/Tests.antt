@@ -20,10 +20,10 @@ use Rattle.file_log.specs.Effect.{applied}
 use Rattle.file_log.specs.Log.{seat_of}
 use Rattle.file_log.specs.declared.item.LogItem.{LogItem}
 use Rattle.file_log.specs.declared.item.LogItem.TheVariants as items
-use Rattle.folder_rules.specs.Answers.{may_end, may_evict, is_too_large}
-use Rattle.folder_rules.specs.Changes.{has_lock, may_write, is_rename, is_rename_of}
-use Rattle.folder_rules.specs.Holds.{Address}
-use Rattle.folder_rules.specs.Kinds.{folder_byte, is_entry, is_temporary, comes_guarded, is_lasting, is_foreign, is_unwritten}
+use Rattle.seat_rules.specs.Answers.{may_end, may_evict, is_too_large}
+use Rattle.seat_rules.specs.Changes.{has_lock, may_write, is_rename, is_rename_of}
+use Rattle.seat_rules.specs.Address.{Address}
+use Rattle.seat_rules.specs.Kinds.{folder_byte, is_entry, is_temporary, comes_guarded, is_lasting, is_foreign, is_unwritten}
 use Rattle.log_summary.specs.Summary.{BegunPut, OpenEvict, Operation, Summary, summed, read_for, given, given_for}
 use Rattle.folder_rules.specs.Whole.{folder_of}
 

@@ -22,8 +22,9 @@ use Rattle.file_model.specs.Held.{Held, told}
 use Rattle.file_model.specs.Steps.{step_items, StepFits, Stepped}
 use Rattle.files_api.specs.Drive.{IsEndOf}
 use Rattle.item_frame.proofs.Numbers.{or_false}
-use Rattle.folder_rules.specs.Changes.{with_item}
-use Rattle.folder_rules.specs.Places.{past, Cooperating, KeepsBy}
+use Rattle.seat_rules.specs.Changes.{with_item}
+use Rattle.seat_rules.specs.Places.{past}
+use Rattle.folder_rules.specs.Places.{Cooperating, KeepsBy}
 use Rattle.folder_rules.proofs.Placing.{kept_by_each}
 use Rattle.folder_changes.proofs.Ordering.{stays_in_order}
 use Rattle.folder_store.proofs.Keeping.{CanFollow, follow}

@@ -22,7 +22,7 @@ use Rattle.file_model.specs.declared.step.Progress.TheVariants as progresses
 use Rattle.file_model.specs.Steps.{byte_item, done_items, step_items, StepFits}
 use Rattle.files_api.specs.declared.machine.Step.TheVariants.{Ask, Done}
 use Rattle.files_api.specs.Drive.{Allows, IsWithin, IsEndOf, items_of_all}
-use Rattle.folder_rules.proofs.Courses.{outside_then, outside_end}
+use Rattle.seat_rules.proofs.Courses.{outside_then, outside_end}
 use Rattle.op_machine.specs.declared.op.Op.{Op}
 use Rattle.op_machine.specs.Machine.{asks, asked, Fed, slots, hurt, allowed}
 use Rattle.op_machine.specs.Requests.{IsOpOf}

@@ -8,10 +8,10 @@ use Rattle.file_log.specs.declared.item.LogItem.TheVariants as items
 use Rattle.file_log.specs.Log.{is_own, own}
 use Rattle.file_log.proofs.All.{seat_self}
 use Rattle.file_log.proofs.Logs.{own-append}
-use Rattle.folder_rules.specs.Operations.{IsInside, GoesOn, is_bound}
-use Rattle.folder_rules.proofs.Courses.{goes_front, inside_then, own_other, own_mine, nothing_made}
-use Rattle.folder_rules.proofs.Histories.{Ends, last_of}
-use Rattle.folder_rules.proofs.Inside.{one_inside}
+use Rattle.seat_rules.specs.Operations.{IsInside, GoesOn, is_bound}
+use Rattle.seat_rules.proofs.Courses.{goes_front, inside_then, own_other, own_mine, nothing_made}
+use Rattle.seat_rules.proofs.Histories.{Ends, last_of}
+use Rattle.seat_rules.proofs.Inside.{one_inside}
 use Rattle.seat_order.proofs.Orderly.{AreMine}
 use Rattle.seat_order.specs.Doing.{IsInOne}
 use Rattle.seat_order.specs.Operating.{AreFew, IsInNone, AreFewAfter}

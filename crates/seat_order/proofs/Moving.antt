@@ -16,8 +16,9 @@ use Rattle.file_model.specs.declared.step.Progress.{Progress}
 use Rattle.file_model.specs.Steps.{step_items, StepFits}
 use Rattle.files_api.specs.declared.machine.Step.TheVariants.{Ask, Done}
 use Rattle.files_api.specs.Drive.{IsEndOf}
-use Rattle.folder_rules.specs.Changes.{with_item}
-use Rattle.folder_rules.specs.Places.{past, Cooperating}
+use Rattle.seat_rules.specs.Changes.{with_item}
+use Rattle.seat_rules.specs.Places.{past}
+use Rattle.folder_rules.specs.Places.{Cooperating}
 use Rattle.folder_rules.specs.Rules.{KeepsRules}
 use Rattle.folder_store.proofs.Keeping.{CanFollow}
 use Rattle.op_machine.specs.declared.op.Op.{Op}

@@ -29,11 +29,12 @@ use Rattle.file_model.specs.Steps.{byte_item, done_items, step_items, StepFits, 
 use Rattle.file_model.specs.Held.{Held, told}
 use Rattle.files_api.specs.Drive.{IsEndOf}
 use Rattle.item_frame.proofs.Numbers.{or_false}
-use Rattle.folder_rules.specs.Changes.{with_item}
-use Rattle.folder_rules.specs.Places.{past, Cooperating}
+use Rattle.seat_rules.specs.Changes.{with_item}
+use Rattle.seat_rules.specs.Places.{past}
+use Rattle.folder_rules.specs.Places.{Cooperating}
 use Rattle.folder_rules.specs.Rules.{KeepsRules}
-use Rattle.folder_rules.proofs.Along.{everywhere, there}
-use Rattle.folder_rules.proofs.Histories.{last_of}
+use Rattle.seat_rules.proofs.Along.{everywhere, there}
+use Rattle.seat_rules.proofs.Histories.{last_of}
 use Rattle.folder_changes.specs.Order.{InOrder}
 use Rattle.folder_changes.proofs.Ordering.{stays_in_order}
 use Rattle.folder_store.proofs.Keeping.{CanFollow, follow}

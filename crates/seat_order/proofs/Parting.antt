@@ -10,11 +10,12 @@ use Rattle.file_log.specs.Log.{History, is_own, is_stop}
 use Rattle.file_log.specs.State.{State, first, after, halted_after, state_of}
 use Rattle.file_log.proofs.All.{all_keep}
 use Rattle.item_frame.proofs.Numbers.{or_false}
-use Rattle.folder_rules.specs.Changes.{with_item}
-use Rattle.folder_rules.specs.Places.{past, Cooperating, KeepsBy}
+use Rattle.seat_rules.specs.Changes.{with_item}
+use Rattle.seat_rules.specs.Places.{past}
+use Rattle.folder_rules.specs.Places.{Cooperating, KeepsBy}
 use Rattle.folder_rules.specs.Rules.{KeepsRules}
-use Rattle.folder_rules.proofs.Along.{there, all_split}
-use Rattle.folder_rules.proofs.Histories.{goes_by}
+use Rattle.seat_rules.proofs.Along.{there, all_split}
+use Rattle.seat_rules.proofs.Histories.{goes_by}
 use Rattle.folder_rules.proofs.Placing.{hold_along}
 use Rattle.seat_order.specs.Apart.{GoesOn}
 

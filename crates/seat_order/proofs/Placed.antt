@@ -7,7 +7,7 @@ use Rattle.std.proofs.lemmas.Option.{slice_get_past}
 use Rattle.cache_types.specs.declared.seat.Who.{Who}
 use Rattle.file_log.specs.declared.item.LogItem.{LogItem}
 use Rattle.file_log.specs.Log.{is_own}
-use Rattle.folder_rules.proofs.Along.{place_of}
+use Rattle.seat_rules.proofs.Along.{place_of}
 use Rattle.seat_order.specs.Operating.{AreFewAfter, FitsAfter, OperatesAt, Operates}
 use Rattle.seat_order.proofs.Insides.{IsOfCall, IsOneOfCall, none_at_first, few_other}
 

@@ -19,8 +19,8 @@ use Rattle.file_model.specs.declared.step.Progress.TheVariants as progresses
 use Rattle.file_model.specs.Seeing.{seen_of}
 use Rattle.file_model.specs.Steps.{step_items, StepFits, IsPlace}
 use Rattle.files_api.specs.declared.machine.Step.TheVariants.{Ask, Done}
-use Rattle.folder_rules.specs.Changes.{with_item}
-use Rattle.folder_rules.specs.Places.{past}
+use Rattle.seat_rules.specs.Changes.{with_item}
+use Rattle.seat_rules.specs.Places.{past}
 use Rattle.op_machine.specs.declared.op.Op.{Op}
 use Rattle.op_machine.specs.Machine.{asks, asked, Fed, slots, hurt}
 use Rattle.op_machine.specs.Requests.{IsOpOf}

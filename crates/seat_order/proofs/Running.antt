@@ -15,7 +15,7 @@ use Rattle.file_log.specs.Exchange.{Answers, Makes, Exchange, items_before}
 use Rattle.files_api.specs.declared.machine.Step.{Step}
 use Rattle.files_api.specs.declared.machine.Step.TheVariants.{Ask, Done}
 use Rattle.files_api.specs.Drive.{Runs, items_of_all}
-use Rattle.folder_rules.specs.Answers.{root_of}
+use Rattle.seat_rules.specs.Answers.{root_of}
 use Rattle.folder_store.specs.declared.get.Phase.{Phase}
 use Rattle.folder_store.specs.declared.get.Phase.TheVariants as phases
 use Rattle.folder_store.specs.declared.put_phase.Look.TheVariants.{First, Second}

@@ -32,8 +32,8 @@ use Rattle.file_model.specs.Steps.{step_items}
 use Rattle.files_api.specs.declared.machine.Step.{Step}
 use Rattle.files_api.specs.declared.machine.Step.TheVariants.{Ask, Done}
 use Rattle.files_api.specs.Drive.{seen_in, IsWithin, Allows, Goes, Moves}
-use Rattle.folder_rules.specs.Changes.{with_item}
-use Rattle.folder_rules.proofs.Histories.{disk_then}
+use Rattle.seat_rules.specs.Changes.{with_item}
+use Rattle.seat_rules.proofs.Histories.{disk_then}
 use Rattle.folder_store.proofs.Keeping.{course_then}
 use Rattle.op_machine.specs.declared.op.Op.{Op}
 use Rattle.op_machine.specs.Machine.{asks, asked, Fed, slots, hurt, left, allowed, goes_on}

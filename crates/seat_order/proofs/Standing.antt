@@ -23,8 +23,8 @@ use Rattle.file_model.specs.Seeing.{seen_of}
 use Rattle.file_model.specs.Steps.{step_items, StepFits, IsPlace}
 use Rattle.files_api.specs.declared.machine.Step.TheVariants.{Ask, Done}
 use Rattle.files_api.specs.Drive.{IsEndOf}
-use Rattle.folder_rules.specs.Changes.{with_item}
-use Rattle.folder_rules.specs.Places.{past}
+use Rattle.seat_rules.specs.Changes.{with_item}
+use Rattle.seat_rules.specs.Places.{past}
 use Rattle.folder_rules.specs.Rules.{KeepsRules}
 use Rattle.folder_changes.proofs.Earning.{earns}
 use Rattle.folder_changes.proofs.Ordering.{stays_in_order}
@@ -44,7 +44,7 @@ use Rattle.std.specs.Prelude.{fold}
 use Rattle.file_log.specs.Seat.{Course, course_after}
 use Rattle.file_log.proofs.All.{seat_self}
 use Rattle.world_tables.proofs.Runs.{byte_items-next}
-use Rattle.folder_rules.proofs.Histories.{goes_by}
+use Rattle.seat_rules.proofs.Histories.{goes_by}
 use Rattle.folder_store.proofs.Keeping.{follow, still_rules, within_inner}
 
 module _ (me : Who) where

@@ -16,8 +16,8 @@ use Rattle.file_log.specs.Fits.{RequestFits, IsMetaOfKeys}
 use Rattle.file_log.specs.Log.{History}
 use Rattle.item_frame.specs.Item.{item_of, IsMeta, Reads}
 use Rattle.item_frame.specs.Writing.{key_count}
-use Rattle.folder_rules.specs.Answers.{is_too_large}
-use Rattle.folder_rules.specs.Operations.{IsInside}
+use Rattle.seat_rules.specs.Answers.{is_too_large}
+use Rattle.seat_rules.specs.Operations.{IsInside}
 use Rattle.folder_rules.specs.Rules.{AnswersAreEarned}
 use Rattle.folder_rules.specs.Whole.{folder_of}
 use Rattle.folder_changes.proofs.Earning.{earns}

@@ -9,7 +9,7 @@ use Rattle.file_log.specs.Exchange.{Answers, Makes, Exchange, items_before}
 use Rattle.file_log.specs.Log.{own}
 use Rattle.files_api.specs.declared.machine.Step.TheVariants.{Ask}
 use Rattle.files_api.specs.Drive.{items_of_all}
-use Rattle.folder_rules.specs.Operations.{IsInside}
+use Rattle.seat_rules.specs.Operations.{IsInside}
 use Rattle.op_machine.specs.declared.op.Op.{Op}
 use Rattle.op_machine.specs.Machine.{asks, asked, Fed}
 use Rattle.op_machine.specs.Requests.{IsOpOf}

@@ -11,8 +11,8 @@ use Rattle.file_log.specs.declared.item.LogItem.{LogItem}
 use Rattle.file_log.specs.declared.item.LogItem.TheVariants as items
 use Rattle.file_log.specs.Log.{is_own, own}
 use Rattle.file_log.specs.Operation.{IsWithinRoot, calls_in, is_fault}
-use Rattle.folder_rules.specs.Answers.{root_of}
-use Rattle.folder_rules.specs.Operations.{IsInside}
+use Rattle.seat_rules.specs.Answers.{root_of}
+use Rattle.seat_rules.specs.Operations.{IsInside}
 use Rattle.folder_store.specs.declared.put_phase.TheConstants.{LOCK_TRIES}
 use Rattle.folder_store.specs.Locking.{HeldInRow, lock_replies}
 use Rattle.folder_store.specs.Lookup.{IsLookupAnswer}

@@ -28,7 +28,7 @@ use Rattle.file_model.specs.declared.step.Progress.TheVariants as progresses
 use Rattle.file_model.specs.Calls.{filled_of}
 use Rattle.file_model.specs.Seeing.{seen_of}
 use Rattle.file_model.specs.Steps.{byte_item, done_items, step_items, StepFits}
-use Rattle.folder_rules.proofs.Histories.{disk_further}
+use Rattle.seat_rules.proofs.Histories.{disk_further}
 
 -- ---- what is seen on a disk
 

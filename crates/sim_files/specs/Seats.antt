@@ -12,7 +12,8 @@ use Rattle.file_log.specs.Seat.{IsSeen, seen_after}
 use Rattle.file_log.specs.State.{first, state_of}
 use Rattle.file_log.specs.Told.{Called}
 use Rattle.file_model.specs.Seeing.{seen_of}
-use Rattle.folder_rules.specs.Places.{past, Cooperating, KeepsBy}
+use Rattle.seat_rules.specs.Places.{past}
+use Rattle.folder_rules.specs.Places.{Cooperating, KeepsBy}
 use Rattle.seat_order.specs.Operating.{Operates}
 
 -- so many bytes does a call write

@@ -24,7 +24,7 @@ use Rattle.file_model.specs.Steps.{step_items, StepFits, IsFated, is_inside}
 use Rattle.files_api.specs.declared.machine.Step.{Step}
 use Rattle.files_api.specs.declared.machine.Step.TheVariants.{Ask, Done}
 use Rattle.files_api.specs.Drive.{Allows, IsWithin}
-use Rattle.folder_rules.specs.Places.{past}
+use Rattle.seat_rules.specs.Places.{past}
 use Rattle.op_machine.specs.declared.op.Op.{Op}
 use Rattle.op_machine.specs.Machine.{slots, hurt, allowed}
 use Rattle.seat_order.specs.Places.{Where}

@@ -12,7 +12,8 @@ use Rattle.file_log.proofs.Logs.{All-append}
 use Rattle.file_model.specs.Held.{Held, told}
 use Rattle.files_api.specs.declared.machine.Step.{Step}
 use Rattle.files_api.specs.declared.machine.Step.TheVariants.{Ask, Done}
-use Rattle.folder_rules.specs.Places.{past, Cooperating}
+use Rattle.seat_rules.specs.Places.{past}
+use Rattle.folder_rules.specs.Places.{Cooperating}
 use Rattle.op_machine.specs.declared.op.Op.{Op}
 use Rattle.op_machine.specs.Machine.{asks, asked}
 use Rattle.seat_order.specs.Places.{Where}

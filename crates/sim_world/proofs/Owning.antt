@@ -10,7 +10,7 @@ use Rattle.file_log.proofs.All.{seat_self}
 use Rattle.file_model.specs.declared.step.Progress.{Progress}
 use Rattle.file_model.specs.Held.{Held}
 use Rattle.file_model.specs.Steps.{step_items, is_inside, Stepped}
-use Rattle.folder_rules.specs.Places.{past}
+use Rattle.seat_rules.specs.Places.{past}
 use Rattle.folder_store.proofs.Keeping.{follow}
 use Rattle.seat_order.proofs.Mine.{step_mine}
 use Rattle.seat_order.proofs.Coming.{all_apart_pass}

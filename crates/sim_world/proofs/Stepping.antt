@@ -22,7 +22,7 @@ use Rattle.file_model.specs.declared.step.Progress.TheVariants as progresses
 use Rattle.file_model.specs.Held.{Held, told}
 use Rattle.file_model.specs.Steps.{step_items, byte_item, done_items, is_inside, Stepped}
 use Rattle.file_log.specs.Exchange.{items_refused}
-use Rattle.folder_rules.specs.Places.{past}
+use Rattle.seat_rules.specs.Places.{past}
 use Rattle.op_machine.specs.declared.op.Op.{Op}
 use Rattle.op_machine.specs.Machine.{asks, asked}
 use Rattle.seat_order.specs.Places.{Where, Leads}

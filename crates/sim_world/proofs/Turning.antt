@@ -17,7 +17,7 @@ use Rattle.file_log.specs.Log.{seat_of}
 use Rattle.file_log.specs.State.{State, first, after, state_of}
 use Rattle.file_model.specs.Held.{Held}
 use Rattle.file_model.specs.Held as held
-use Rattle.folder_rules.specs.Places.{past}
+use Rattle.seat_rules.specs.Places.{past}
 use Rattle.op_machine.specs.Requests.{IsBuilt}
 use Rattle.seat_order.proofs.Coming.{apart_at_first, taken_passes, stopped_move}
 use Rattle.world_tables.proofs.Finds.{same_seat-true}

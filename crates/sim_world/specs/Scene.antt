@@ -6,7 +6,7 @@ use Rattle.cache_types.specs.Seats.{same_seat}
 use Rattle.file_log.specs.declared.item.LogItem.{LogItem}
 use Rattle.file_log.specs.declared.ticket.Ticket.{Ticket}
 use Rattle.file_log.specs.State.{State, state_of}
-use Rattle.folder_rules.specs.Places.{past}
+use Rattle.seat_rules.specs.Places.{past}
 
 -- what a seat is at: nothing, a request that it was given and hasn't begun, or an operation that it has begun and not ended
 pub data Activity : Type 0 where

@@ -8,7 +8,7 @@ use Rattle.file_log.specs.State.{State, first, state_of, disk_of}
 use Rattle.file_log.specs.declared.item.LogItem.{LogItem}
 use Rattle.file_model.proofs.Replays.{legal_at, next_done, next_state}
 use Rattle.file_model.specs.Held.{Held, told}
-use Rattle.folder_rules.specs.Kinds.{is_entry}
+use Rattle.seat_rules.specs.Kinds.{is_entry}
 use Rattle.log_summary.proofs.Telling.{tells}
 use Rattle.log_summary.specs.Summary.{Summary, nothing, summed, summary_of, gained}
 use Rattle.operation_ledger.specs.Had.{IsNamesHad}

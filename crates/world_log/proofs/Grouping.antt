@@ -13,7 +13,7 @@ use Rattle.std.proofs.lemmas.List.Sorted.{list_any-IsPermutation, IsPermutation-
 use Rattle.std.proofs.lemmas.List.Quantifiers.{position-Some}
 use Rattle.cache_types.specs.declared.key.Key.{Key}
 use Rattle.cache_types.specs.declared.seat.Who.{Who}
-use Rattle.folder_rules.specs.Holds.{Address}
+use Rattle.seat_rules.specs.Address.{Address}
 use Rattle.log_summary.specs.Summary.{BegunPut, OpenEvict, read_for}
 use Rattle.rule_cases.specs.Cases.{is_put_at}
 use Rattle.rule_checks.proofs.Deciding.{same_key_decides, same_address_decides}

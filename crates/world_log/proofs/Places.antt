@@ -10,9 +10,10 @@ use Rattle.file_log.specs.Legal.{Legal, IsLegal}
 use Rattle.file_log.specs.Log.{History}
 use Rattle.file_log.specs.State.{first, after}
 use Rattle.file_log.specs.declared.item.LogItem.{LogItem}
-use Rattle.folder_rules.proofs.Along.{all_split}
-use Rattle.folder_rules.specs.Places.{At, AtEach, KeepsAt, Cooperating, past}
-use Rattle.folder_rules.specs.Promises.{IsLicensed, IsFound}
+use Rattle.seat_rules.proofs.Along.{all_split}
+use Rattle.seat_rules.specs.Places.{At, AtEach, past}
+use Rattle.folder_rules.specs.Places.{KeepsAt, Cooperating}
+use Rattle.seat_rules.specs.Promises.{IsLicensed, IsFound}
 use Rattle.folder_rules.specs.Rules.{KeepsRules}
 use Rattle.folder_laws.proofs.Finding.{found}
 use Rattle.folder_laws.proofs.Licensing.{licensed}

@@ -3,7 +3,7 @@ use Rattle.std.specs.Prelude.{◌≡◌, ℕ, nat_eq, Bool, ◌&&◌, ◌||◌, 
 use Rattle.std.specs.List.{list_any}
 use Rattle.std.specs.Map.{lookup}
 use Rattle.cache_types.specs.declared.key.Key.{Key}
-use Rattle.folder_rules.specs.Holds.{Address}
+use Rattle.seat_rules.specs.Address.{Address}
 use Rattle.log_summary.specs.Summary.{BegunPut}
 use Rattle.rule_checks.specs.Tests.{same_key}
 use Rattle.world_log.specs.declared.groups.PutGroups.{PutGroups}

@@ -5,7 +5,7 @@ use Rattle.cache_types.specs.declared.key.Key.{Key}
 use Rattle.cache_types.specs.declared.seat.Who.{Who}
 use Rattle.file_log.specs.Disk.{Disk}
 use Rattle.file_log.specs.State.{first}
-use Rattle.folder_rules.specs.Holds.{Address}
+use Rattle.seat_rules.specs.Address.{Address}
 use Rattle.folder_rules.specs.Whole.{folder_of}
 use Rattle.log_summary.specs.Summary.{BegunPut, OpenEvict, Summary, nothing, read_for}
 use Rattle.operation_ledger.specs.Had.{IsNamesHad}

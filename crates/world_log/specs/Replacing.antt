@@ -3,8 +3,8 @@ use Rattle.std.specs.Prelude.{Bool, not, ◌&&◌, is_none}
 use Rattle.cache_types.specs.declared.name.Name.{Name}
 use Rattle.cache_types.specs.declared.seat.Who.{Who}
 use Rattle.file_log.specs.Disk.{Disk}
-use Rattle.folder_rules.specs.Changes.{may_write}
-use Rattle.folder_rules.specs.Kinds.{comes_guarded, is_foreign, is_lasting}
+use Rattle.seat_rules.specs.Changes.{may_write}
+use Rattle.seat_rules.specs.Kinds.{comes_guarded, is_foreign, is_lasting}
 use Rattle.rule_checks.specs.Tests.{implies}
 
 -- another file may come in the place of a name that is no entry's

@@ -3,7 +3,7 @@ ghost use Rattle.file_log.specs.Effect.{applied};
 ghost use Rattle.file_log.specs.Legal.{IsLegal, Legal};
 ghost use Rattle.file_log.specs.State.{first, state_of, disk_of};
 ghost use Rattle.file_model.specs.Held.{told};
-ghost use Rattle.folder_rules.specs.Kinds.{is_entry};
+ghost use Rattle.seat_rules.specs.Kinds.{is_entry};
 ghost use Rattle.log_summary.specs.Summary.{Summary, summed};
 ghost use Rattle.rule_checks.specs.Tests.{keep_bytes};
 ghost use Rattle.world_log.specs.Ledgers.{Carries};

@@ -1,6 +1,6 @@
 ghost use Rattle.std.specs.Prelude.{◌≡◌, OnOk, OnErr};
 ghost use Rattle.std.specs.List.{list_any};
-ghost use Rattle.folder_rules.specs.Holds.{address};
+ghost use Rattle.seat_rules.specs.Address.{address};
 ghost use Rattle.log_summary.specs.Summary.{evicting_after};
 ghost use Rattle.rule_checks.specs.Tests as tests;
 

@@ -1,8 +1,8 @@
 //! Kinds of names, and the lock that guards each.
 
 ghost use Rattle.std.specs.Prelude.{◌≡◌};
-ghost use Rattle.folder_rules.specs.Changes as changes;
-ghost use Rattle.folder_rules.specs.Kinds as kinds;
+ghost use Rattle.seat_rules.specs.Changes as changes;
+ghost use Rattle.seat_rules.specs.Kinds as kinds;
 ghost use Rattle.world_tables.specs.Tables.{disk_at};
 
 use crate::looks::has_lock;

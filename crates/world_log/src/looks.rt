@@ -2,8 +2,8 @@
 
 ghost use Rattle.std.specs.Prelude.{◌≡◌, Some, is_some};
 ghost use Rattle.file_log.specs.Disk.{bytes_in};
-ghost use Rattle.folder_rules.specs.Changes as changes;
-ghost use Rattle.folder_rules.specs.Operations.{is_file};
+ghost use Rattle.seat_rules.specs.Changes as changes;
+ghost use Rattle.seat_rules.specs.Operations.{is_file};
 ghost use Rattle.log_summary.specs.Summary.{read_for};
 ghost use Rattle.world_tables.specs.Tables.{disk_at};
 

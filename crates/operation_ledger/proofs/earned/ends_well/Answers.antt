@@ -1,5 +1,5 @@
 use Rattle.std.proofs.Common.{◌≡◌, true, rules}
-use Rattle.folder_rules.specs.Answers.{may_end}
+use Rattle.seat_rules.specs.Answers.{may_end}
 use Rattle.world_tables.specs.Tables.{disk_at}
 use Rattle.operation_ledger.proofs.Says.{ends_held}
 use Rattle.operation_ledger.proofs.earned.ends_well.Goals as goal

@@ -1,7 +1,7 @@
 use Rattle.std.proofs.Common.{◌≡◌, length, ◌&&◌}
 use Rattle.std.specs.List.{list_any}
-use Rattle.folder_rules.specs.Kinds.{is_lock_of}
-use Rattle.folder_rules.specs.Operations.{is_file}
+use Rattle.seat_rules.specs.Kinds.{is_lock_of}
+use Rattle.seat_rules.specs.Operations.{is_file}
 use Rattle.world_tables.specs.Find.{number_in}
 use Rattle.operation_ledger.proofs.locks.has_lock.Given as goal
 

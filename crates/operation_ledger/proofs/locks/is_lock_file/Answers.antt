@@ -1,8 +1,8 @@
 use Rattle.std.proofs.Common.{ap, ◌∙◌, ◌&&◌, List}
 use Rattle.std.specs.List.{list_any}
 use Rattle.cache_types.specs.declared.name.Name.{Name}
-use Rattle.folder_rules.specs.Kinds.{is_lock_of}
-use Rattle.folder_rules.specs.Operations.{is_file}
+use Rattle.seat_rules.specs.Kinds.{is_lock_of}
+use Rattle.seat_rules.specs.Operations.{is_file}
 use Rattle.world_tables.specs.Tables.{disk_at}
 use Rattle.operation_ledger.proofs.Listing.{lock_file_same}
 use Rattle.operation_ledger.proofs.locks.is_lock_file.Goals as goal

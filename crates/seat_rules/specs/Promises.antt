@@ -9,9 +9,9 @@ use Rattle.cache_types.specs.declared.seat.Who.{Who}
 use Rattle.file_log.specs.declared.item.LogItem.{LogItem}
 use Rattle.file_log.specs.declared.item.LogItem.TheVariants as items
 use Rattle.file_log.specs.Log.{History, Quiet, WasPut}
-use Rattle.folder_rules.specs.Holds.{Address}
-use Rattle.folder_rules.specs.Operations.{GoesOn, IsInside, EvictIsOpen}
-use Rattle.folder_rules.specs.Places.{AtEach}
+use Rattle.seat_rules.specs.Address.{Address}
+use Rattle.seat_rules.specs.Operations.{GoesOn, IsInside, EvictIsOpen}
+use Rattle.seat_rules.specs.Places.{AtEach}
 
 -- ---- licensed
 

@@ -6,8 +6,8 @@ use Rattle.file_log.specs.Log.{History, Quiet}
 use Rattle.file_log.specs.State.{State, first, after, disk_of}
 use Rattle.file_log.specs.declared.item.LogItem.{LogItem}
 use Rattle.cache_types.specs.declared.seat.Who.{Who}
-use Rattle.folder_rules.specs.Changes.{with_item}
-use Rattle.folder_rules.specs.Operations.{is_end_of, NoEndOf}
+use Rattle.seat_rules.specs.Changes.{with_item}
+use Rattle.seat_rules.specs.Operations.{is_end_of, NoEndOf}
 
 -- the disk after one item more
 pub disk_then : (h : History) (item : LogItem) → disk_of (with_item h item) ≡ applied (disk_of h) item

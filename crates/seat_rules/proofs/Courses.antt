@@ -13,9 +13,9 @@ use Rattle.file_log.specs.State.{disk_of}
 use Rattle.file_log.specs.declared.item.LogItem.{LogItem}
 use Rattle.file_log.specs.declared.item.LogItem.TheVariants as items
 use Rattle.file_log.proofs.Logs.{own-append}
-use Rattle.folder_rules.specs.Operations.{is_bound, GoesOn, IsInside, AfterOne}
-use Rattle.folder_rules.proofs.Along.{past}
-use Rattle.folder_rules.proofs.Histories.{disk_further, last_of}
+use Rattle.seat_rules.specs.Operations.{is_bound, GoesOn, IsInside, AfterOne}
+use Rattle.seat_rules.proofs.Along.{past}
+use Rattle.seat_rules.proofs.Histories.{disk_further, last_of}
 
 -- ---- after one of the seat's items, with an item more
 

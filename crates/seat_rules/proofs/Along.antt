@@ -4,9 +4,9 @@ use Rattle.std.proofs.Math.Seq.{take-append_seam}
 use Rattle.file_log.specs.Along.{All}
 use Rattle.file_log.specs.Log.{History}
 use Rattle.file_log.specs.declared.item.LogItem.{LogItem}
-use Rattle.folder_rules.specs.Changes.{with_item}
-pub use Rattle.folder_rules.specs.Places.{past}
-use Rattle.folder_rules.specs.Places.{AtEach}
+use Rattle.seat_rules.specs.Changes.{with_item}
+pub use Rattle.seat_rules.specs.Places.{past}
+use Rattle.seat_rules.specs.Places.{AtEach}
 
 some_is : (a b : LogItem) → Some a ≡ Some b → a ≡ b
 some_is a b e = cc

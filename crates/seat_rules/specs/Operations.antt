@@ -11,8 +11,8 @@ use Rattle.file_log.specs.declared.reply.Reply.TheVariants.{Held}
 use Rattle.file_log.specs.Disk.{Disk}
 use Rattle.file_log.specs.Effect.{applied}
 use Rattle.file_log.specs.Log.{is_own}
-use Rattle.folder_rules.specs.Holds.{Address}
-use Rattle.folder_rules.specs.Kinds.{is_lock_of}
+use Rattle.seat_rules.specs.Address.{Address}
+use Rattle.seat_rules.specs.Kinds.{is_lock_of}
 
 -- ---- from a Begin to the next End
 

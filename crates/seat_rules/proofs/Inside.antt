@@ -1,16 +1,13 @@
 -- A seat is in one operation at most.
 use Rattle.std.proofs.Common.{◌≡◌, Bool, true, false, ◌&&◌, List, [], ◌∷◌, ◌++◌, refl, sym, ap, ◌∙◌, subst}
-use Rattle.cache_types.specs.declared.answer.Answer.{Answer}
 use Rattle.cache_types.specs.declared.request.Request.{Request}
 use Rattle.cache_types.specs.declared.seat.Who.{Who}
 use Rattle.cache_types.specs.Seats.{same_seat}
 use Rattle.file_log.specs.declared.item.LogItem.{LogItem}
 use Rattle.file_log.specs.declared.item.LogItem.TheVariants as items
-use Rattle.file_log.specs.Log.{History, Quiet}
 use Rattle.file_log.proofs.All.{seat_self}
-use Rattle.folder_rules.specs.Answers.{may_end, IsEarned}
-use Rattle.folder_rules.specs.Operations.{GoesOn, IsInside}
-use Rattle.folder_rules.specs.Rules.{EndsWell, disk_at}
+use Rattle.seat_rules.specs.Laws.{AreOne, OperationsAreOne}
+use Rattle.seat_rules.specs.Operations.{GoesOn}
 
 head_is : (x y : LogItem) (xs ys : List LogItem) → x ∷ xs ≡ y ∷ ys → x ≡ y
 head_is x y xs ys e = cc
@@ -30,12 +27,6 @@ no_begin who request [] ys g = let clash : true ≡ false = sym (seat_self who) 
     and_true false = refl
 no_begin who request (x ∷ xs) ys g = no_begin who request xs ys g.1
 
--- two operations that a seat is in are one: the same items before it, the same request, the same items since
-pub record AreOne (b1 b2 s1 s2 : List LogItem) (r1 r2 : Request) : Type 0 where
-  pub before : b1 ≡ b2
-  pub request : r1 ≡ r2
-  pub since : s1 ≡ s2
-
 one_by : (who : Who) (b1 b2 s1 s2 : List LogItem) (r1 r2 : Request) → GoesOn who s1 → GoesOn who s2 → b1 ++ items.Begin who r1 ∷ s1 ≡ b2 ++ items.Begin who r2 ∷ s2 → AreOne b1 b2 s1 s2 r1 r2
 one_by who [] [] s1 s2 r1 r2 g1 g2 e = record { before = refl; request = request_is who r1 r2 (head_is _ _ s1 s2 e); since = tail_is _ _ s1 s2 e }
 one_by who [] (y ∷ b2) s1 s2 r1 r2 g1 g2 e = absurd (no_begin who r2 b2 s2 (subst (GoesOn who) (tail_is _ y s1 _ e) g1))
@@ -44,18 +35,5 @@ one_by who (x ∷ b1) (y ∷ b2) s1 s2 r1 r2 g1 g2 e =
     let rest = one_by who b1 b2 s1 s2 r1 r2 g1 g2 (tail_is x y _ _ e) in
     record { before = ap (λ (z : LogItem). z ∷ b1) (head_is x y _ _ e) ∙ ap (λ (l : List LogItem). y ∷ l) rest.before; request = rest.request; since = rest.since }
 
-pub one_inside : (log : List LogItem) (who : Who) (r1 r2 : Request) (i : IsInside log who r1) (j : IsInside log who r2) → AreOne i.before j.before i.since j.since r1 r2
+pub one_inside : OperationsAreOne
 one_inside log who r1 r2 i j = one_by who i.before j.before i.since j.since r1 r2 i.goes_on j.goes_on (sym i.log_is ∙ j.log_is)
-
--- what the answer of an operation says of it
-abbrev pub Earned : History → Who → Answer → Request → List LogItem → List LogItem → Type 0
-Earned h who answer request before since =
-    (may_end request answer ≡ true) × IsEarned (Quiet h.log) who (disk_at h before) (items.Begin who request ∷ (since ++ items.End who answer ∷ [])) request answer
-
--- is said of the one that the seat is in
-pub earned_at : (h : History) (who : Who) (answer : Answer) (request : Request) → EndsWell h who answer → (i : IsInside h.log who request) → Earned h who answer request i.before i.since
-earned_at h who answer request ends i =
-    let one = one_inside h.log who ends.request request ends.inside i in
-    subst (λ (l : List LogItem). Earned h who answer request i.before l) one.since
-    (subst (λ (l : List LogItem). Earned h who answer request l ends.inside.since) one.before
-    (subst (λ (q : Request). Earned h who answer q ends.inside.before ends.inside.since) one.request (ends.kind, ends.earned)))

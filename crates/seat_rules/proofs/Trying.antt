@@ -11,9 +11,9 @@ use Rattle.file_log.specs.declared.item.LogItem.{LogItem}
 use Rattle.file_log.specs.declared.item.LogItem.TheVariants as items
 use Rattle.file_log.specs.declared.reply.Reply.{Reply}
 use Rattle.file_log.specs.declared.reply.Reply.TheVariants.{Held}
-use Rattle.folder_rules.specs.Kinds.{is_lock_of}
-use Rattle.folder_rules.specs.Operations.{tried, tries, WasHeldOff}
-use Rattle.folder_rules.proofs.Histories.{last_of}
+use Rattle.seat_rules.specs.Kinds.{is_lock_of}
+use Rattle.seat_rules.specs.Operations.{tried, tries, WasHeldOff}
+use Rattle.seat_rules.proofs.Histories.{last_of}
 
 pub tries_more : (who : Who) (f : ℕ) (d : Disk) (made : List LogItem) (x : LogItem) → tries who f d (made ++ x ∷ []) ≡ tries who f d made ++ tried who f (fold applied d made) x
 tries_more who f d [] x = append-nil (tried who f d x)

@@ -11,11 +11,15 @@ use Rattle.file_log.specs.declared.reply.Reply.TheVariants.{Done}
 use Rattle.file_log.specs.Disk.{Disk, Lock, lock_in}
 use Rattle.file_log.specs.Log.{History, with_items}
 use Rattle.file_log.specs.State.{disk_of}
-use Rattle.folder_rules.specs.Kinds.{guard_of}
+use Rattle.seat_rules.specs.Kinds.{guard_of}
 
 -- a history with one item more
 abbrev pub with_item : History → LogItem → History
 with_item h item = with_items h (item ∷ [])
+
+-- the disk after a first part of a history's items
+abbrev pub disk_at : History → List LogItem → Disk
+disk_at h before = disk_of (record { start = h.start; log = before })
 
 -- ---- locks
 

@@ -1,0 +1,13 @@
+pub mod Along
+pub mod Courses
+pub mod Finding
+pub mod Histories
+pub mod Inside
+pub mod Lasting
+pub mod Licensing
+pub mod Placing
+pub mod Puts
+pub mod Safe
+pub mod Trying
+pub mod Unseated
+pub mod Watching

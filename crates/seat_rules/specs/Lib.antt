@@ -1,0 +1,12 @@
+pub mod Address
+pub mod Answers
+pub mod Changes
+pub mod Judged
+pub mod Kinds
+pub mod Laws
+pub mod Operations
+pub mod Part
+pub mod Places
+pub mod Promises
+pub mod Rules
+pub mod Served
