@@ -16,7 +16,7 @@ use Rattle.file_log.specs.Told.{Grows}
 use Rattle.file_log.proofs.All.{none_keeps}
 use Rattle.file_log.proofs.Logs.{nothing_yet}
 use Rattle.seat_rules.specs.Changes.{with_item}
-use Rattle.folder_rules.specs.Rules.{KeepsRules}
+use Rattle.layout_rules.specs.Rules.{KeepsRules}
 use Rattle.folder_store.specs.Keeping.{HasKept, OthersKeepRules, WasLacking}
 use Rattle.folder_store.specs.Lookup.{IsLookupAnswer}
 use Rattle.folder_store.specs.Put.{IsPutAnswer}

@@ -25,7 +25,7 @@ use Rattle.std.proofs.lemmas.List.Folds.{list_any-append}
 use Rattle.std.proofs.lemmas.List.Sums.{fold-append}
 use Rattle.std.proofs.lemmas.Bool.{false≢true}
 use Rattle.seat_rules.specs.Answers.{root_of, may_end}
-use Rattle.folder_rules.specs.Answers.{IsEarned}
+use Rattle.layout_rules.proofs.Earning.{IsEarnedAlong, ends_by}
 use Rattle.seat_rules.specs.Changes.{with_item, disk_at}
 use Rattle.seat_rules.specs.Operations.{AfterOne, GoesOn, IsInside, WasHeldOff, is_bound, is_end_of, tried, tries}
 use Rattle.seat_rules.proofs.Courses.{after_stays, after_now, inside_then, failed_then}
@@ -199,46 +199,40 @@ memory_ends (requests.Verify store) = refl
 memory_ends (requests.Trim store to) = refl
 
 -- what these answers say, of every request
-busy_says : (calm : Type 0) (me : Who) (d : Disk) (made : List LogItem) (request : Request) → WasHeldOff me (root_of request) d made → IsEarned calm me d made request answers.Busy
+busy_says : (calm : Type 0) (me : Who) (d : Disk) (made : List LogItem) (request : Request) → WasHeldOff me (root_of request) d made → IsEarnedAlong calm me d made request answers.Busy
 busy_says calm me d made (requests.Get store driver key ro) w = w
 busy_says calm me d made (requests.Put store driver key meta blob limit) w = w
 busy_says calm me d made request w = w
 
-fault_says : (calm : Type 0) (me : Who) (d : Disk) (made : List LogItem) (request : Request) → list_any is_fault (own me made) ≡ true → IsEarned calm me d made request answers.FilesFault
+fault_says : (calm : Type 0) (me : Who) (d : Disk) (made : List LogItem) (request : Request) → list_any is_fault (own me made) ≡ true → IsEarnedAlong calm me d made request answers.FilesFault
 fault_says calm me d made (requests.Get store driver key ro) e = e
 fault_says calm me d made (requests.Put store driver key meta blob limit) e = e
 fault_says calm me d made request e = e
 
-memory_says : (calm : Type 0) (me : Who) (d : Disk) (made : List LogItem) (request : Request) → IsEarned calm me d made request answers.NoMemory
+memory_says : (calm : Type 0) (me : Who) (d : Disk) (made : List LogItem) (request : Request) → IsEarnedAlong calm me d made request answers.NoMemory
 memory_says calm me d made (requests.Get store driver key ro) = tt
 memory_says calm me d made (requests.Put store driver key meta blob limit) = tt
 memory_says calm me d made request = tt
 
 pub earns : OperationsEarn
 earns h me = record {
-  hit = λ store driver key ro blob s. record { request = requests.Get store driver key ro; inside = s.inside; kind = refl; earned = end_seen h me (requests.Get store driver key ro) _ (answers.Hit blob) s };
-  miss = λ store driver key ro s. record { request = requests.Get store driver key ro; inside = s.inside; kind = refl; earned = λ calm. end_seen h me (requests.Get store driver key ro) _ answers.Miss s };
-  stored = λ store driver key meta blob limit s. record { request = requests.Put store driver key meta blob limit; inside = s.inside; kind = refl; earned = end_seen h me (requests.Put store driver key meta blob limit) _ answers.Stored s };
-  kept = λ store driver key meta blob limit s. record { request = requests.Put store driver key meta blob limit; inside = s.inside; kind = refl; earned = end_seen h me (requests.Put store driver key meta blob limit) _ answers.Kept s };
-  too_large = λ store driver key meta blob limit n i large. record { request = requests.Put store driver key meta blob limit; inside = i; kind = refl; earned = large };
-  busy = λ request kind w. record {
-    request = request;
-    inside = w.inside;
-    kind = kind;
-    earned = busy_says (Quiet h.log) me (disk_at h w.inside.before) (items.Begin me request ∷ (w.inside.since ++ items.End me answers.Busy ∷ [])) request
-        (held_off_stays me (root_of request) (disk_at h w.inside.before) (items.Begin me request ∷ w.inside.since) (items.End me answers.Busy) w.held_off);
-  };
-  fault = λ request f. record {
-    request = request;
-    inside = f.inside;
-    kind = fault_ends request;
-    earned = fault_says (Quiet h.log) me (disk_at h f.inside.before) (items.Begin me request ∷ (f.inside.since ++ items.End me answers.FilesFault ∷ [])) request
-        (faults_grow me (items.Begin me request ∷ f.inside.since) (items.End me answers.FilesFault) f.failed);
-  };
-  no_memory = λ request i. record {
-    request = request;
-    inside = i;
-    kind = memory_ends request;
-    earned = memory_says (Quiet h.log) me (disk_at h i.before) (items.Begin me request ∷ (i.since ++ items.End me answers.NoMemory ∷ [])) request;
-  };
+  hit = λ store driver key ro blob s. ends_by h me (answers.Hit blob) (requests.Get store driver key ro) s.inside (refl, end_seen h me (requests.Get store driver key ro) _ (answers.Hit blob) s);
+  miss = λ store driver key ro s. ends_by h me answers.Miss (requests.Get store driver key ro) s.inside (refl, λ calm. end_seen h me (requests.Get store driver key ro) _ answers.Miss s);
+  stored = λ store driver key meta blob limit s. ends_by h me answers.Stored (requests.Put store driver key meta blob limit) s.inside (refl, end_seen h me (requests.Put store driver key meta blob limit) _ answers.Stored s);
+  kept = λ store driver key meta blob limit s. ends_by h me answers.Kept (requests.Put store driver key meta blob limit) s.inside (refl, end_seen h me (requests.Put store driver key meta blob limit) _ answers.Kept s);
+  too_large = λ store driver key meta blob limit n i large. ends_by h me (answers.TooLarge n) (requests.Put store driver key meta blob limit) i (refl, large);
+  busy = λ request kind w. ends_by h me answers.Busy request w.inside (
+    kind,
+    busy_says (Quiet h.log) me (disk_at h w.inside.before) (items.Begin me request ∷ (w.inside.since ++ items.End me answers.Busy ∷ [])) request
+        (held_off_stays me (root_of request) (disk_at h w.inside.before) (items.Begin me request ∷ w.inside.since) (items.End me answers.Busy) w.held_off),
+  );
+  fault = λ request f. ends_by h me answers.FilesFault request f.inside (
+    fault_ends request,
+    fault_says (Quiet h.log) me (disk_at h f.inside.before) (items.Begin me request ∷ (f.inside.since ++ items.End me answers.FilesFault ∷ [])) request
+        (faults_grow me (items.Begin me request ∷ f.inside.since) (items.End me answers.FilesFault) f.failed),
+  );
+  no_memory = λ request i. ends_by h me answers.NoMemory request i (
+    memory_ends request,
+    memory_says (Quiet h.log) me (disk_at h i.before) (items.Begin me request ∷ (i.since ++ items.End me answers.NoMemory ∷ [])) request,
+  );
 }

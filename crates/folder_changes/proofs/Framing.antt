@@ -6,6 +6,7 @@ use Rattle.cache_types.specs.Seats.{same_seat}
 use Rattle.cache_types.specs.declared.name.Name.{Name}
 use Rattle.cache_types.specs.declared.name.Name.TheVariants as names
 use Rattle.cache_types.specs.declared.seat.Who.{Who}
+use Rattle.cache_types.specs.declared.store.Layout.TheVariants.{Folder}
 use Rattle.disk_laws.proofs.Slots.{other_slots}
 use Rattle.disk_laws.proofs.Tidiness.{tidy}
 use Rattle.file_log.specs.Disk.{Disk, created, listed}
@@ -16,7 +17,7 @@ use Rattle.file_log.specs.declared.item.LogItem.{LogItem}
 use Rattle.file_log.specs.declared.item.LogItem.TheVariants as items
 use Rattle.seat_rules.specs.Changes.{has_lock}
 use Rattle.seat_rules.specs.Kinds.{folder_byte}
-use Rattle.folder_rules.specs.Rules.{Conforms}
+use Rattle.layout_rules.specs.Rules.{Conforms}
 use Rattle.seat_rules.proofs.Unseated.{apart}
 use Rattle.folder_changes.specs.Frame.{HasFolder, Leaves, OthersLeave}
 use Rattle.folder_changes.specs.Order.{InOrder}
@@ -36,12 +37,12 @@ by_rule : (h : History) (x : LogItem) (me who : Who) → same_seat me who ≡ fa
 by_rule h x me who apart_ other goes c = record {
   slots = λ slot. other_slots me (disk_of h) x slot other goes;
   locks = λ file slot e. other_locks (disk_of h) me x file slot other goes e;
-  lock_names = λ root byte file e. (c.stay (names.FolderLock root byte)).lasting refl file e;
-  entry_bytes = λ root key file had. (c.renamed root key).bytes file had;
-  entries = λ root key has. (c.renamed root key).held (has_not (disk_of h) me who root (folder_byte key) has apart_);
-  temporary = λ root key has. (c.written (names.Temp root key) (has_not (disk_of h) me who root (folder_byte key) has apart_)).stays refl;
+  lock_names = λ root byte file e. (c.shared.stay (names.FolderLock root byte)).lasting refl file e;
+  entry_bytes = λ root key file had. ((c.kept Folder).renamed root key).bytes file had;
+  entries = λ root key has. ((c.kept Folder).renamed root key).held (has_not (disk_of h) me who root (folder_byte key) has apart_);
+  temporary = λ root key has. (c.shared.written (names.Temp root key) (has_not (disk_of h) me who root (folder_byte key) has apart_)).stays refl;
   temporary_bytes = λ root key has.
-      let left = c.written (names.Temp root key) (has_not (disk_of h) me who root (folder_byte key) has apart_) in
+      let left = c.shared.written (names.Temp root key) (has_not (disk_of h) me who root (folder_byte key) has apart_) in
       file_same (disk_of h) (applied (disk_of h) x) (names.Temp root key) (left.stays refl) left.bytes;
 }
 

@@ -20,10 +20,10 @@ use Rattle.file_log.proofs.All.{seat_self}
 use Rattle.seat_rules.specs.Changes.{with_item, has_lock, may_write, HasHad, is_rename}
 use Rattle.seat_rules.specs.Kinds.{folder_byte, is_entry, is_temporary, comes_guarded, is_lasting, is_foreign, is_unwritten}
 use Rattle.seat_rules.specs.Rules.{IsLeft, Stays}
-use Rattle.folder_rules.specs.Rules.{AnswersAreEarned, NothingIsLost, Conforms}
+use Rattle.layout_rules.proofs.Folders.{NothingIsLost, held_same, conforms_of}
+use Rattle.layout_rules.specs.Rules.{AnswersAreEarned, Conforms}
 use Rattle.folder_rules.specs.Whole.{folder_of, IsPutItem, EntriesAreWhole}
 use Rattle.seat_rules.proofs.Unseated.{apart}
-use Rattle.folder_rules.proofs.Entries.{held_same}
 use Rattle.seat_rules.proofs.Histories.{disk_then}
 use Rattle.seat_rules.proofs.Puts.{put_goes_on}
 use Rattle.folder_changes.specs.Frame.{HasFolder}
@@ -67,7 +67,7 @@ record Unsettling (h : History) (x : LogItem) (me : Who) : Type 0 where
   settled : (name : Name) (f : ℕ) → is_settled name ≡ true → HasHad h name f → (applied (disk_of h) x).files f ≡ (disk_of h).files f
 
 unsettling_conforms : (h : History) (x : LogItem) (me : Who) → InOrder h → AnswersAreEarned h x → Unsettling h x me → Conforms h x me
-unsettling_conforms h x me o earned u = record {
+unsettling_conforms h x me o earned u = conforms_of h x me (record {
   whole = whole_same h x o.whole same;
   written = u.left;
   renamed = λ root key.
@@ -76,7 +76,7 @@ unsettling_conforms h x me o earned u = record {
   stay = λ name. record { lasting = u.lasting name; foreign = u.foreign name; bytes = λ kind f had. u.settled name f (settled_unwritten name kind) had };
   kept = kept_same h x me same;
   earned = earned;
-}
+})
   where
     same : (root : ℕ) (key : Key) → file_of (applied (disk_of h) x) (names.Entry root key) ≡ file_of (disk_of h) (names.Entry root key)
     same root key = let a = u.entries root key in file_same (disk_of h) (applied (disk_of h) x) (names.Entry root key) a.named a.bytes
@@ -198,7 +198,7 @@ has_mine : (d : Disk) (me : Who) (root byte : ℕ) → HasFolder d me root byte 
 has_mine d me root byte h = rw (h.named, h.taken, seat_self me) refl
 
 pub installing_keeps : InstallingKeeps
-installing_keeps h me root key file o named has whole_item evicting = record {
+installing_keeps h me root key file o named has whole_item evicting = conforms_of h item me (record {
   whole = whole;
   written = left;
   renamed = λ r k. elim (one_or_other entry (names.Entry r k)) [
@@ -224,7 +224,7 @@ installing_keeps h me root key file o named has whole_item evicting = record {
   ];
   kept = kept;
   earned = tt;
-}
+})
   where
     entry : Name
     entry = names.Entry root key

@@ -9,6 +9,7 @@ use Rattle.cache_types.specs.declared.name.Name.TheVariants as names
 use Rattle.cache_types.specs.declared.request.Request.TheVariants as requests
 use Rattle.cache_types.specs.declared.seat.Who.{Who}
 use Rattle.cache_types.specs.declared.store.Store.{Store}
+use Rattle.cache_types.specs.declared.store.Layout.TheVariants.{Folder}
 use Rattle.disk_laws.proofs.Tidiness.{tidy}
 use Rattle.file_log.specs.Disk.{Disk, file_of}
 use Rattle.file_log.specs.Effect.{applied}
@@ -20,7 +21,7 @@ use Rattle.file_log.specs.declared.item.LogItem.{LogItem}
 use Rattle.file_log.specs.declared.item.LogItem.TheVariants as items
 use Rattle.file_log.specs.declared.reply.Reply.TheVariants.{Done}
 use Rattle.seat_rules.specs.Changes.{with_item, HasHad}
-use Rattle.folder_rules.specs.Rules.{KeepsRules, Conforms}
+use Rattle.layout_rules.specs.Rules.{KeepsRules, Conforms}
 use Rattle.folder_rules.specs.Whole.{folder_of, EntriesAreWhole}
 use Rattle.folder_rules.proofs.Entries.{unseated_file}
 use Rattle.seat_rules.proofs.Histories.{disk_then}
@@ -41,18 +42,18 @@ whole_then : (h : History) (x : LogItem) → EntriesAreWhole h → KeepsRules h 
 whole_then h x whole keeps = by_seat (seat_of x) refl
   where
     by_seat : (seat : Option Who) → seat_of x ≡ seat → EntriesAreWhole (with_item h x)
-    by_seat (Some who) e = (keeps who e).whole
+    by_seat (Some who) e = (keeps who e).whole Folder
     by_seat None e = whole_same h x whole (λ root key. unseated_file (disk_of h) x root key (tidy h) e)
 
 -- ---- settled names
 
 -- a settled name that is renamed keeps its file
 settled_stays : (h : History) (who : Who) (from to : Name) → Conforms h (items.Did who (calls.Rename from to) Done) who → is_settled from ≡ true → (f : ℕ) → (disk_of h).names from ≡ Some f → (applied (disk_of h) (items.Did who (calls.Rename from to) Done)).names from ≡ Some f
-settled_stays h who (names.Entry root key) to c s f e = (c.renamed root key).stays (same_self (names.Entry root key)) ∙ e
-settled_stays h who (names.FolderLock root byte) to c s f e = (c.stay (names.FolderLock root byte)).lasting refl f e
-settled_stays h who (names.Ro root name) to c s f e = (c.stay (names.Ro root name)).foreign refl ∙ e
-settled_stays h who (names.RoIdx root name) to c s f e = (c.stay (names.RoIdx root name)).foreign refl ∙ e
-settled_stays h who names.List to c s f e = (c.stay names.List).foreign refl ∙ e
+settled_stays h who (names.Entry root key) to c s f e = ((c.kept Folder).renamed root key).stays (same_self (names.Entry root key)) ∙ e
+settled_stays h who (names.FolderLock root byte) to c s f e = (c.shared.stay (names.FolderLock root byte)).lasting refl f e
+settled_stays h who (names.Ro root name) to c s f e = (c.shared.stay (names.Ro root name)).foreign refl ∙ e
+settled_stays h who (names.RoIdx root name) to c s f e = (c.shared.stay (names.RoIdx root name)).foreign refl ∙ e
+settled_stays h who names.List to c s f e = (c.shared.stay names.List).foreign refl ∙ e
 settled_stays h who from to c s f e = absurd (false≢true s)
 
 settled_then : (h : History) (x : LogItem) → InOrder h → KeepsRules h x → (name : Name) (f : ℕ) → HasHad (with_item h x) name f → is_settled name ≡ true → (other : Name) → (disk_of (with_item h x)).names other ≡ Some f → other ≡ name

@@ -10,7 +10,8 @@ use Rattle.file_log.specs.Disk.{file_of}
 use Rattle.file_log.specs.State.{disk_of}
 use Rattle.item_frame.proofs.AnyLaws.{front_of_item}
 use Rattle.seat_rules.specs.Address.{Address, address}
-use Rattle.folder_rules.specs.Holds.{FileReads, GivesBy}
+use Rattle.layout_rules.specs.Parts.{GivesBy}
+use Rattle.folder_rules.specs.Holds.{FileReads}
 use Rattle.seat_rules.specs.Operations.{EvictIsOpen}
 use Rattle.folder_rules.specs.Whole.{folder_of}
 use Rattle.folder_changes.specs.Own.{IsReplacing, ReplacingEvicts}

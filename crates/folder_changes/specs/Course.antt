@@ -24,10 +24,10 @@ use Rattle.file_log.specs.declared.reply.Reply.TheVariants.{Held}
 use Rattle.seat_rules.specs.Answers.{root_of, may_end, is_too_large}
 use Rattle.seat_rules.specs.Changes.{with_item, disk_at}
 use Rattle.seat_rules.specs.Address.{Address, address}
-use Rattle.folder_rules.specs.Holds.{Gives, IsHeld}
+use Rattle.layout_rules.specs.Parts.{Gives, IsHeld}
 use Rattle.seat_rules.specs.Kinds.{is_lock_of}
 use Rattle.seat_rules.specs.Operations.{is_bound, IsInside, AfterOne, EvictIsOpen, tries, WasHeldOff}
-use Rattle.folder_rules.specs.Rules.{AnswersAreEarned}
+use Rattle.layout_rules.specs.Rules.{AnswersAreEarned}
 
 -- ---- what it has met
 

@@ -10,7 +10,7 @@ use Rattle.file_log.specs.State.{disk_of}
 use Rattle.file_log.specs.declared.item.LogItem.{LogItem}
 use Rattle.seat_rules.specs.Changes.{HasHad}
 use Rattle.seat_rules.specs.Kinds.{folder_byte}
-use Rattle.folder_rules.specs.Rules.{KeepsRules}
+use Rattle.layout_rules.specs.Rules.{KeepsRules}
 use Rattle.folder_changes.specs.Order.{InOrder}
 
 -- a lock of this slot of the seat

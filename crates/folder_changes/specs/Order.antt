@@ -11,7 +11,7 @@ use Rattle.file_log.specs.State.{state_of, disk_of}
 use Rattle.file_log.specs.declared.item.LogItem.{LogItem}
 use Rattle.seat_rules.specs.Changes.{with_item, HasHad}
 use Rattle.seat_rules.specs.Kinds.{is_entry, is_unwritten}
-use Rattle.folder_rules.specs.Rules.{KeepsRules}
+use Rattle.layout_rules.specs.Rules.{KeepsRules}
 use Rattle.folder_rules.specs.Whole.{EntriesAreWhole}
 
 -- a name whose files get no other name

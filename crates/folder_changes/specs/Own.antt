@@ -16,10 +16,10 @@ use Rattle.file_log.specs.declared.item.LogItem.TheVariants.{Did}
 use Rattle.file_log.specs.declared.reply.Reply.TheVariants.{Done}
 use Rattle.seat_rules.specs.Changes.{may_write}
 use Rattle.seat_rules.specs.Address.{Address, address}
-use Rattle.folder_rules.specs.Holds.{IsHeld}
+use Rattle.layout_rules.specs.Parts.{IsHeld}
 use Rattle.seat_rules.specs.Kinds.{folder_byte, is_entry, comes_guarded, is_foreign}
 use Rattle.seat_rules.specs.Operations.{EvictIsOpen}
-use Rattle.folder_rules.specs.Rules.{AnswersAreEarned, Conforms}
+use Rattle.layout_rules.specs.Rules.{AnswersAreEarned, Conforms}
 use Rattle.folder_rules.specs.Whole.{folder_of, IsPutItem}
 use Rattle.folder_changes.specs.Frame.{HasFolder}
 use Rattle.folder_changes.specs.Order.{is_settled, InOrder}

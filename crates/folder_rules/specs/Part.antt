@@ -18,6 +18,7 @@ abbrev pub folder_part : Part
 folder_part = record {
   holds = FolderHolds;
   gives = FolderHolds;
+  fits = λ d root limit. Unit {0};
   whole = EntriesAreWhole;
   keeps = KeepsEntries;
   miss_at = anywhere;

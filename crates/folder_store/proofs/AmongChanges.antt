@@ -22,10 +22,11 @@ use Rattle.disk_laws.proofs.Tidiness.{tidy}
 use Rattle.item_frame.specs.Item.{Reads}
 use Rattle.seat_rules.specs.Changes.{with_item, may_write}
 use Rattle.seat_rules.specs.Address.{address}
-use Rattle.folder_rules.specs.Holds.{FileReads, Gives}
+use Rattle.layout_rules.specs.Parts.{Gives}
+use Rattle.folder_rules.specs.Holds.{FileReads}
 use Rattle.seat_rules.specs.Kinds.{folder_byte}
 use Rattle.seat_rules.specs.Operations.{is_bound}
-use Rattle.folder_rules.specs.Rules.{AnswersAreEarned, KeepsRules}
+use Rattle.layout_rules.specs.Rules.{AnswersAreEarned, KeepsRules}
 use Rattle.folder_rules.specs.Whole.{folder_of, IsPutItem}
 use Rattle.seat_rules.proofs.Histories.{disk_then}
 use Rattle.folder_changes.specs.Own.{IsReplacing}

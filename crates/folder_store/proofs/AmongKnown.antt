@@ -18,10 +18,10 @@ use Rattle.file_log.specs.Log.{History, is_own}
 use Rattle.file_log.specs.State.{disk_of}
 use Rattle.seat_rules.specs.Changes.{with_item}
 use Rattle.seat_rules.specs.Address.{Address, address}
-use Rattle.folder_rules.specs.Holds.{Gives, IsHeld}
+use Rattle.layout_rules.specs.Parts.{Gives, IsHeld}
 use Rattle.seat_rules.specs.Kinds.{folder_byte}
 use Rattle.seat_rules.specs.Operations.{EvictIsOpen}
-use Rattle.folder_rules.specs.Rules.{AnswersAreEarned}
+use Rattle.layout_rules.specs.Rules.{AnswersAreEarned}
 use Rattle.folder_rules.specs.Whole.{folder_of}
 use Rattle.seat_rules.proofs.Histories.{disk_then}
 use Rattle.folder_changes.specs.Course.{HasSeen, HasFailed, HasTried, IsHeldOff}

@@ -14,7 +14,7 @@ use Rattle.file_log.proofs.All.{seat_self}
 use Rattle.files_api.specs.declared.machine.Step.{Step}
 use Rattle.seat_rules.specs.Changes.{with_item}
 use Rattle.seat_rules.specs.Operations.{is_bound}
-use Rattle.folder_rules.specs.Rules.{AnswersAreEarned, Conforms, KeepsRules}
+use Rattle.layout_rules.specs.Rules.{AnswersAreEarned, Conforms, KeepsRules}
 use Rattle.seat_rules.proofs.Histories.{disk_then}
 use Rattle.folder_changes.specs.Course.{HasFailed}
 use Rattle.folder_changes.proofs.Earning.{meets}

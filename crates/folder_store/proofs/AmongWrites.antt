@@ -12,7 +12,7 @@ use Rattle.file_log.specs.Log.{History}
 use Rattle.file_log.specs.State.{disk_of}
 use Rattle.file_log.specs.Writing.{written}
 use Rattle.seat_rules.specs.Changes.{with_item}
-use Rattle.folder_rules.specs.Rules.{KeepsRules}
+use Rattle.layout_rules.specs.Rules.{KeepsRules}
 use Rattle.folder_store.specs.declared.put_phase.Besides.TheVariants.{LockAndTemp}
 use Rattle.folder_store.specs.declared.put_phase.PutPhase.{PutPhase}
 use Rattle.folder_store.specs.declared.put_phase.PutPhase.TheVariants.{Writing, Renaming}

@@ -30,7 +30,7 @@ use Rattle.item_frame.specs.Item.{Reads}
 use Rattle.item_frame.proofs.Laws.{at_most}
 use Rattle.seat_rules.specs.Changes.{with_item}
 use Rattle.seat_rules.specs.Operations.{is_bound}
-use Rattle.folder_rules.specs.Rules.{AnswersAreEarned, KeepsRules}
+use Rattle.layout_rules.specs.Rules.{AnswersAreEarned, KeepsRules}
 use Rattle.folder_changes.specs.Frame.{Leaves}
 use Rattle.folder_changes.proofs.Earning.{meets}
 use Rattle.folder_changes.proofs.Framing.{others_leave}

@@ -25,8 +25,8 @@ use Rattle.file_log.proofs.All.{seat_self}
 use Rattle.files_api.specs.Drive.{Runs, items_of_all, IsEndOf}
 use Rattle.seat_rules.specs.Changes.{with_item}
 use Rattle.seat_rules.specs.Address.{address}
-use Rattle.folder_rules.specs.Holds.{IsHeld}
-use Rattle.folder_rules.specs.Rules.{KeepsRules}
+use Rattle.layout_rules.specs.Parts.{IsHeld}
+use Rattle.layout_rules.specs.Rules.{KeepsRules}
 use Rattle.folder_rules.specs.Whole.{folder_of}
 use Rattle.seat_rules.proofs.Histories.{goes_by}
 use Rattle.folder_store.specs.declared.get.FolderGet.{FolderGet}

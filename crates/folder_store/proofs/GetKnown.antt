@@ -15,8 +15,8 @@ use Rattle.file_log.specs.Log.{History}
 use Rattle.file_log.specs.State.{disk_of}
 use Rattle.seat_rules.specs.Changes.{with_item}
 use Rattle.seat_rules.specs.Address.{Address, address}
-use Rattle.folder_rules.specs.Holds.{Gives, IsHeld}
-use Rattle.folder_rules.specs.Rules.{AnswersAreEarned}
+use Rattle.layout_rules.specs.Parts.{Gives, IsHeld}
+use Rattle.layout_rules.specs.Rules.{AnswersAreEarned}
 use Rattle.folder_rules.specs.Whole.{folder_of}
 use Rattle.folder_changes.specs.Course.{HasSeen, HasFailed}
 use Rattle.folder_changes.specs.Frame.{Leaves}

@@ -25,8 +25,8 @@ use Rattle.files_api.proofs.Weave.{Inductive, Outer, weave_operation}
 use Rattle.seat_rules.specs.Changes.{with_item}
 use Rattle.seat_rules.specs.Operations.{is_bound, IsInside}
 use Rattle.seat_rules.specs.Places.{past}
-use Rattle.folder_rules.specs.Places.{Cooperating}
-use Rattle.folder_rules.specs.Rules.{AnswersAreEarned, KeepsRules}
+use Rattle.layout_rules.specs.Places.{Cooperating}
+use Rattle.layout_rules.specs.Rules.{AnswersAreEarned, KeepsRules}
 use Rattle.seat_rules.proofs.Along.{all_from}
 use Rattle.seat_rules.proofs.Histories.{goes_by}
 use Rattle.folder_changes.specs.Course.{IsWithin}

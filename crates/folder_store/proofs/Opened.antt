@@ -19,7 +19,8 @@ use Rattle.file_log.proofs.All.{seat_self}
 use Rattle.item_frame.specs.Item.{Reads}
 use Rattle.seat_rules.specs.Changes.{with_item, HasHad, disk_at}
 use Rattle.seat_rules.specs.Address.{Address, address}
-use Rattle.folder_rules.specs.Holds.{FileReads, Gives, IsHeld}
+use Rattle.layout_rules.specs.Parts.{Gives, IsHeld}
+use Rattle.folder_rules.specs.Holds.{FileReads}
 use Rattle.seat_rules.specs.Operations.{AfterOne, IsInside}
 use Rattle.folder_rules.specs.Whole.{folder_of}
 use Rattle.seat_rules.proofs.Histories.{disk_then}

@@ -20,7 +20,7 @@ use Rattle.files_api.specs.Drive.{IsEndOf}
 use Rattle.files_api.proofs.Weave.{Inductive}
 use Rattle.item_frame.specs.Item.{Reads}
 use Rattle.seat_rules.specs.Changes.{with_item}
-use Rattle.folder_rules.specs.Rules.{KeepsRules}
+use Rattle.layout_rules.specs.Rules.{KeepsRules}
 use Rattle.folder_changes.specs.Frame.{Leaves}
 use Rattle.folder_changes.proofs.Framing.{others_leave}
 use Rattle.folder_store.specs.declared.put.FolderPut.{FolderPut}

@@ -20,7 +20,7 @@ use Rattle.file_log.specs.State.{state_of, disk_of}
 use Rattle.files_api.specs.Drive.{Runs, items_of_all, IsEndOf}
 use Rattle.item_frame.specs.Item.{Reads}
 use Rattle.seat_rules.specs.Changes.{with_item}
-use Rattle.folder_rules.specs.Rules.{KeepsRules}
+use Rattle.layout_rules.specs.Rules.{KeepsRules}
 use Rattle.folder_rules.specs.Whole.{folder_of}
 use Rattle.folder_store.specs.declared.put.FolderPut.{FolderPut}
 use Rattle.folder_store.specs.Keeping.{HasKept, KeepsRulesAmong, OthersKeepRules}

@@ -18,7 +18,7 @@ use Rattle.files_api.specs.declared.machine.Step.TheVariants.{Done}
 use Rattle.files_api.specs.Drive.{Runs, items_of_all, IsEndOf}
 use Rattle.files_api.proofs.Weave.{Inductive, Outer, weave_operation}
 use Rattle.seat_rules.specs.Changes.{with_item}
-use Rattle.folder_rules.specs.Rules.{KeepsRules}
+use Rattle.layout_rules.specs.Rules.{KeepsRules}
 use Rattle.folder_store.specs.Keeping.{OthersKeepRules}
 use Rattle.folder_store.proofs.Keeping.{CanFollow, follow, IsOut, out_other, out_ended, IsIn, begin_rules, begun}
 

@@ -27,7 +27,7 @@ use Rattle.folder_store.proofs.Calls.{looks, looks_within, same_root, looks_spen
 use Rattle.folder_store.proofs.Still.{all_as_own, looking_stays, nothing_stays}
 use Rattle.folder_store.proofs.Outcome.{outcome}
 use Rattle.seat_rules.specs.Changes.{with_item}
-use Rattle.folder_rules.specs.Rules.{KeepsRules}
+use Rattle.layout_rules.specs.Rules.{KeepsRules}
 use Rattle.folder_store.proofs.GetKeeps.{lookup_keeps, lookup_misses}
 use Rattle.folder_store.proofs.Keeping.{IsIdleIn, unmade_keeps}
 use Rattle.folder_store.proofs.Finding.{finding}

@@ -31,7 +31,7 @@ use Rattle.folder_store.proofs.PutEnds.{put_alone, put_whole, put_tells}
 use Rattle.folder_store.proofs.PutOnDisk.{OnDisk, refused_on_disk, unmade_on_disk}
 use Rattle.folder_store.proofs.PutOutcome.{put_outcome}
 use Rattle.seat_rules.specs.Changes.{with_item}
-use Rattle.folder_rules.specs.Rules.{KeepsRules}
+use Rattle.layout_rules.specs.Rules.{KeepsRules}
 use Rattle.folder_store.proofs.Keeping.{IsIdleIn, unmade_keeps}
 use Rattle.folder_store.proofs.PutEvicts.{any_evict, plain_names, put_replaces}
 use Rattle.folder_store.proofs.PutKeeps.{put_keeps}

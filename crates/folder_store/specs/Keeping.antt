@@ -12,10 +12,10 @@ use Rattle.file_log.specs.Log.{History, is_own}
 use Rattle.file_log.specs.State.{first, disk_of}
 use Rattle.seat_rules.specs.Changes.{with_item}
 use Rattle.seat_rules.specs.Address.{address}
-use Rattle.folder_rules.specs.Holds.{IsHeld}
+use Rattle.layout_rules.specs.Parts.{IsHeld}
 use Rattle.seat_rules.specs.Operations.{AfterOne}
-use Rattle.folder_rules.specs.Places.{Cooperating}
-use Rattle.folder_rules.specs.Rules.{KeepsRules}
+use Rattle.layout_rules.specs.Places.{Cooperating}
+use Rattle.layout_rules.specs.Rules.{KeepsRules}
 use Rattle.folder_rules.specs.Whole.{folder_of}
 
 -- the history began on an empty disk, its log can be, and no place of it breaks a rule

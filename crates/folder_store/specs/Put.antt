@@ -24,7 +24,8 @@ use Rattle.file_log.specs.Told.{Grows, Rose}
 use Rattle.item_frame.specs.Item.{ReadsAs}
 use Rattle.seat_rules.specs.Changes.{with_item, is_rename}
 use Rattle.seat_rules.specs.Address.{address}
-use Rattle.folder_rules.specs.Holds.{FolderHolds, IsHeld}
+use Rattle.layout_rules.specs.Parts.{IsHeld}
+use Rattle.folder_rules.specs.Holds.{FolderHolds}
 use Rattle.folder_rules.specs.Rules.{EntriesStayWhole}
 use Rattle.folder_rules.specs.Whole.{folder_of, EntriesAreWhole}
 use Rattle.folder_store.specs.Entries.{ReplacesTold, OthersSpare}

@@ -19,7 +19,7 @@ use Rattle.files_api.proofs.Weave.{Inductive}
 use Rattle.item_frame.specs.Item.{Reads}
 use Rattle.seat_rules.specs.Changes.{with_item}
 use Rattle.seat_rules.specs.Operations.{IsInside}
-use Rattle.folder_rules.specs.Rules.{AnswersAreEarned, KeepsRules}
+use Rattle.layout_rules.specs.Rules.{AnswersAreEarned, KeepsRules}
 use Rattle.folder_changes.proofs.Earning.{earns}
 use Rattle.folder_store.specs.declared.get.FolderGet.{FolderGet}
 use Rattle.folder_store.specs.declared.put.FolderPut.{FolderPut}

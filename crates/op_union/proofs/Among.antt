@@ -17,9 +17,9 @@ use Rattle.file_log.specs.Log.{History}
 use Rattle.file_log.specs.Told.{Grows}
 use Rattle.seat_rules.specs.Changes.{with_item}
 use Rattle.seat_rules.specs.Places.{past}
-use Rattle.folder_rules.specs.Rules.{KeepsRules}
+use Rattle.layout_rules.specs.Rules.{KeepsRules}
 use Rattle.seat_rules.proofs.Histories.{goes_by}
-use Rattle.folder_rules.proofs.Placing.{hold_along}
+use Rattle.layout_rules.proofs.Placing.{hold_along}
 use Rattle.folder_store.specs.Keeping.{HasKept, KeepsRulesAmong, AsksGet}
 use Rattle.folder_store.proofs.Operations.{Grows-map}
 use Rattle.op_union.specs.Cooperating.{KeepsOwn, MissesTruly}

@@ -21,7 +21,7 @@ use Rattle.folder_changes.proofs.Earning.{earns}
 use Rattle.seat_rules.specs.Answers.{is_too_large}
 use Rattle.seat_rules.specs.Changes.{with_item}
 use Rattle.seat_rules.specs.Operations.{IsInside}
-use Rattle.folder_rules.specs.Rules.{AnswersAreEarned, KeepsRules}
+use Rattle.layout_rules.specs.Rules.{AnswersAreEarned, KeepsRules}
 use Rattle.folder_store.proofs.Calls.{done_is, not_ask}
 use Rattle.folder_store.proofs.Keeping.{IsIdleIn, order_of, no_calls_keep, unmade_keeps}
 use Rattle.folder_store.proofs.Operations.{Grows-map, Grows-from}

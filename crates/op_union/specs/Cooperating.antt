@@ -9,7 +9,7 @@ use Rattle.file_log.specs.declared.item.LogItem.{LogItem}
 use Rattle.file_log.specs.Legal.{Legal}
 use Rattle.file_log.specs.Log.{History}
 use Rattle.file_log.specs.State.{first}
-use Rattle.folder_rules.specs.Places.{KeepsBy}
+use Rattle.layout_rules.specs.Places.{KeepsBy}
 use Rattle.folder_store.specs.Keeping.{HasKept, OthersKeepRules, WasLacking}
 
 -- Own handles cooperate: in a log that began on an empty disk and can be, the first place that breaks a rule, if there is one, has no

@@ -15,7 +15,7 @@ use Rattle.file_log.specs.State.{State, first, disk_of}
 use Rattle.file_log.specs.declared.item.LogItem.{LogItem}
 use Rattle.seat_rules.specs.Changes.{HasHad}
 use Rattle.seat_rules.specs.Places.{past}
-use Rattle.folder_rules.specs.Places.{KeepsAt}
+use Rattle.layout_rules.specs.Places.{KeepsAt}
 use Rattle.folder_rules.proofs.Entries.{unseated_file}
 use Rattle.seat_rules.proofs.Histories.{disk_further}
 use Rattle.folder_changes.proofs.Changing.{count_grows}

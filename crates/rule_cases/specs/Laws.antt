@@ -7,7 +7,7 @@ use Rattle.file_log.specs.Effect.{applied}
 use Rattle.file_log.specs.Legal.{Legal}
 use Rattle.file_log.specs.State.{first}
 use Rattle.seat_rules.specs.Kinds.{is_entry}
-use Rattle.folder_rules.specs.Places.{KeepsAt, Cooperating, KeepsBy}
+use Rattle.layout_rules.specs.Places.{KeepsAt, Cooperating, KeepsBy}
 use Rattle.log_summary.specs.Summary.{Summary, nothing, summed, summary_of}
 use Rattle.rule_checks.specs.Tests.{keep_bytes}
 use Rattle.rule_cases.specs.Cases.{passes}

@@ -18,11 +18,11 @@ use Rattle.file_log.specs.declared.item.LogItem.{LogItem}
 use Rattle.file_log.specs.declared.item.LogItem.TheVariants as items
 use Rattle.file_log.proofs.All.{seat_self}
 use Rattle.seat_rules.specs.Answers.{root_of, may_evict}
-use Rattle.folder_rules.specs.Answers.{IsEarned}
+use Rattle.layout_rules.proofs.Earning.{IsEarnedAlong, ends_by, earned_at}
 use Rattle.seat_rules.specs.Address.{Address, address}
-use Rattle.folder_rules.specs.Holds.{Gives, IsHeld}
+use Rattle.layout_rules.specs.Parts.{Gives, IsHeld}
 use Rattle.seat_rules.specs.Operations.{IsInside, AfterOne, WasHeldOff}
-use Rattle.folder_rules.specs.Rules.{EndsWell, AnswersAreEarned}
+use Rattle.layout_rules.specs.Rules.{EndsWell, AnswersAreEarned}
 use Rattle.log_summary.specs.Summary.{Operation, Summary, given, given_for}
 use Rattle.rule_checks.specs.Tests.{same_blob, says_true, ends_well, evicts_well, is_earned}
 use Rattle.seat_rules.proofs.Along.{past}
@@ -32,7 +32,6 @@ use Rattle.seat_rules.proofs.Courses.{IsOutside, disk_now, failed_then, or_nothi
 use Rattle.seat_rules.proofs.Trying.{held_off_split, held_off_stays}
 use Rattle.rule_checks.proofs.Deciding.{same_blob_decides}
 use Rattle.seat_rules.proofs.Inside.{one_inside}
-use Rattle.folder_rules.proofs.Earning.{earned_at}
 use Rattle.log_summary.specs.Telling.{TellsCalm}
 use Rattle.rule_checks.proofs.Reading.{AllFit, all_fit, after_fits, gives_from, gives_to, held_from, held_to, none_from, none_to}
 use Rattle.log_summary.specs.Telling.{Tells}
@@ -78,7 +77,7 @@ same_decides : (a b : Bool) → a ≡ b → Decides a (b ≡ true)
 same_decides a b e = (λ t. sym e ∙ t, λ t. e ∙ t)
 
 says_decides : (log : List LogItem) (rough : Bool) (who : Who) (d : Disk) (made : List LogItem) (request : Request) (gave : List (Option (List ℕ))) (o : Operation) (answer : Answer) → TellsCalm log rough → IsSummed who d made request gave o
-    → Decides (says_true rough gave o request answer) (IsEarned (Quiet log) who d made request answer)
+    → Decides (says_true rough gave o request answer) (IsEarnedAlong (Quiet log) who d made request answer)
 says_decides log rough who d made (requests.Get store driver key ro) gave o (answers.Hit blob) calm s = gave_blob who d made (address store driver key) gave blob s.fit (s.gave_is (same_blob (Some blob)))
 says_decides log rough who d made (requests.Get store driver key ro) gave o answers.Miss calm s = while_calm log rough _ calm (gave_none who d made (address store driver key) gave s.fit (s.gave_is is_none))
 says_decides log rough who d made (requests.Put store driver key meta blob limit) gave o answers.Stored calm s = gave_blob who d made (address store driver key) gave blob s.fit (s.gave_is (same_blob (Some blob)))
@@ -122,7 +121,7 @@ ends_decides : (log : List LogItem) (d : Disk) (rough : Bool) (who : Who) (o : O
     → Decides (ends_well rough d o answer) (EndsWell (past log) who answer)
 ends_decides log d rough who None answer disk calm legal t = (λ e. absurd (false≢true e), λ w. absurd (t w.request w.inside))
 ends_decides log d rough who (Some o) answer disk calm legal t = Decides-like _
-    (λ p. record { request = o.request; inside = t.at; kind = p.0; earned = p.1 })
+    (λ p. ends_by (past log) who answer o.request t.at p)
     (λ w. earned_at (past log) who answer o.request w t.at)
     (Decides-and _ _ (λ e. e, λ e. e)
     (Decides-at _ _ (ap (λ (e : Disk). says_true rough (given_for e o.request ∷ o.gave) o o.request answer) (sym disk))

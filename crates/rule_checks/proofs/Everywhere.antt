@@ -2,6 +2,7 @@
 use Rattle.std.proofs.Common.{◌≡◌, ◌↔◌, ℕ, zero, suc, ◌<◌, List, [], ◌∷◌, ◌++◌, take, slice_get, Option, Some, None, refl, sym, ap, ◌∙◌, subst, append_assoc, append-nil, arith}
 use Rattle.cache_types.specs.declared.name.Name.TheVariants.{Entry}
 use Rattle.cache_types.specs.declared.seat.Who.{Who}
+use Rattle.cache_types.specs.declared.store.Layout.TheVariants.{Folder}
 use Rattle.disk_laws.proofs.Tidiness.{tidy}
 use Rattle.file_log.specs.Along.{All, Keeps}
 use Rattle.file_log.specs.Disk.{Disk, file_of}
@@ -11,15 +12,15 @@ use Rattle.file_log.specs.State.{first, after, disk_of}
 use Rattle.file_log.specs.declared.item.LogItem.{LogItem}
 use Rattle.seat_rules.specs.Changes.{with_item}
 use Rattle.rule_checks.specs.Laws.{AreDecided, AreDecidedAlong}
-use Rattle.folder_rules.specs.Places.{KeepsAt}
-use Rattle.folder_rules.specs.Rules.{KeepsRules}
+use Rattle.layout_rules.specs.Places.{KeepsAt}
+use Rattle.layout_rules.specs.Rules.{KeepsRules}
 use Rattle.log_summary.specs.Summary.{Summary, nothing, summed, summary_of}
 use Rattle.rule_checks.specs.Tests.{PassesTests}
 use Rattle.folder_rules.specs.Whole.{EntriesAreWhole, folder_of}
 use Rattle.seat_rules.proofs.Along.{past, parts_at, all_from, all_split}
 use Rattle.folder_rules.proofs.Entries.{unseated_file}
 use Rattle.seat_rules.proofs.Histories.{disk_then}
-use Rattle.folder_rules.proofs.Placing.{hold_along}
+use Rattle.layout_rules.proofs.Placing.{hold_along}
 use Rattle.seat_rules.proofs.Puts.{put_goes_on}
 use Rattle.log_summary.specs.Telling.{Tells}
 use Rattle.log_summary.proofs.Telling.{tells, tells_then}
@@ -35,7 +36,7 @@ pub whole_then : (log : List LogItem) (x : LogItem) → EntriesAreWhole (past lo
 whole_then log x whole keeps = by_seat (seat_of x) refl
   where
     by_seat : (seat : Option Who) → seat_of x ≡ seat → EntriesAreWhole (past (log ++ x ∷ []))
-    by_seat (Some who) e = (keeps who e).whole
+    by_seat (Some who) e = (keeps who e).whole Folder
     by_seat None e = λ root key bytes file.
         let same = ap (λ (d : Disk). file_of d (Entry root key)) (disk_then (past log) x) ∙ unseated_file (disk_of (past log)) x root key (tidy (past log)) e in
         let item = whole root key bytes (sym same ∙ file) in

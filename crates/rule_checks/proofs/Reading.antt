@@ -27,7 +27,8 @@ use Rattle.item_frame.specs.declared.refusal.ItemRefusal.{ItemRefusal}
 use Rattle.item_frame.proofs.Laws.{Reads-from_item_at, item_at-reads}
 use Rattle.item_frame.proofs.Numbers.{IsBytes}
 use Rattle.seat_rules.specs.Address.{Address}
-use Rattle.folder_rules.specs.Holds.{FileReads, GivesBy, Gives, IsHeld}
+use Rattle.layout_rules.specs.Parts.{GivesBy, Gives, IsHeld}
+use Rattle.folder_rules.specs.Holds.{FileReads}
 use Rattle.seat_rules.specs.Operations.{AfterOne}
 use Rattle.log_summary.specs.Summary.{read_part, read_for, given_by, given}
 use Rattle.rule_checks.specs.Tests.{is_held}

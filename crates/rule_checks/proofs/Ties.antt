@@ -19,10 +19,10 @@ use Rattle.file_log.specs.declared.item.LogItem.{LogItem}
 use Rattle.file_log.specs.declared.item.LogItem.TheVariants as items
 use Rattle.item_frame.proofs.Numbers.{IsBytes}
 use Rattle.seat_rules.specs.Address.{Address}
-use Rattle.folder_rules.specs.Holds.{IsHeld}
+use Rattle.layout_rules.specs.Parts.{IsHeld}
 use Rattle.seat_rules.specs.Kinds.{is_entry, is_unwritten}
 use Rattle.seat_rules.specs.Operations.{EvictIsOpen}
-use Rattle.folder_rules.specs.Rules.{Conforms, KeepsRules}
+use Rattle.layout_rules.specs.Rules.{Conforms, KeepsRules}
 use Rattle.log_summary.specs.Summary.{BegunPut, OpenEvict, Summary, put_in, read_for}
 use Rattle.cache_types.specs.Seats.{same_seat}
 use Rattle.rule_checks.specs.Tests.{same_store, same_key, same_blob, same_address, is_item_of, is_whole, is_held, evicts, kept_at, kept, Passes, PassesTests}
@@ -33,7 +33,7 @@ use Rattle.log_summary.proofs.Seats.{same_seat_decides}
 use Rattle.rule_checks.proofs.Earned.{earned_decides}
 use Rattle.seat_rules.proofs.Histories.{disk_then}
 use Rattle.seat_rules.proofs.Puts.{fits_in}
-use Rattle.folder_rules.proofs.Puts.{gives_put}
+use Rattle.layout_rules.proofs.Folders.{SixRules, conforms_of, six_of, gives_put}
 use Rattle.log_summary.specs.Telling.{In}
 use Rattle.log_summary.proofs.Lists.{and_parts, and_both, or_cases, or_left, or_right, any_in, any_from, all_in, all_out}
 use Rattle.log_summary.specs.Telling.{ListsPuts, ListsEvicts, TellsCalm}
@@ -152,7 +152,7 @@ puts_fit log x legal store driver key blob put =
     (fits_in (first []) (log ++ x ∷ []) begun legal (Contains-append_left log (x ∷ []) begun put.3)).0
 
 passes_conforms : (log : List LogItem) (x : LogItem) (s : Summary) (who : Who) → IsPlace log x s → Passes (stated log s) x who → Conforms (past log) x who
-passes_conforms log x s who p pass = record {
+passes_conforms log x s who p pass = conforms_of (past log) x who (record {
   whole = whole_from (log ++ x ∷ []) (s.puts ++ put_in x) (puts_then log s.puts x p.tells.puts) (place_fit log x s p)
       (λ root key. subst (λ (d : Disk). is_whole (s.puts ++ put_in x) root key (file_of d (names.Entry root key)) ≡ true) (sym (disk_then (past log) x)) (pass.whole root key));
   written = λ name. (guarded_decides (disk_of (past log)) (applied (disk_of (past log)) x) who name).0 (pass.written name);
@@ -164,10 +164,10 @@ passes_conforms log x s who p pass = record {
       record { lasting = r.0; foreign = r.1; bytes = λ kind f h. (keep_decides is_unwritten s.had (disk_of (past log)) (applied (disk_of (past log)) x)).0 pass.unwritten name f (p.tells.files.all name f h) kind };
   kept = kept_from log s.rough s.puts s.evicting who (applied (disk_of (past log)) x) p.tells.calm p.tells.puts p.tells.evicts p.whole (puts_fit log x p.legal) (subst FilesFit (disk_then (past log) x) (place_fit log x s p)) pass.kept;
   earned = (earned_decides log (stated log s) x p.legal (tells_stated log s p.tells)).0 pass.earned;
-}
+})
 
 conforms_passes : (log : List LogItem) (x : LogItem) (s : Summary) (who : Who) → IsPlace log x s → Conforms (past log) x who → Passes (stated log s) x who
-conforms_passes log x s who p c = record {
+conforms_passes log x s who p conforms = record {
   whole = λ root key. subst (λ (d : Disk). is_whole (s.puts ++ put_in x) root key (file_of d (names.Entry root key)) ≡ true) (disk_then (past log) x) (whole_to (log ++ x ∷ []) (s.puts ++ put_in x) (puts_then log s.puts x p.tells.puts) c.whole root key);
   written = λ name. (guarded_decides (disk_of (past log)) (applied (disk_of (past log)) x) who name).1 (c.written name);
   renamed = λ root key. let r = c.renamed root key in (renamed_decides (disk_of (past log)) (applied (disk_of (past log)) x) x who root key).1 (record { held = r.held; renamed = r.renamed; stays = r.stays });
@@ -178,6 +178,9 @@ conforms_passes log x s who p c = record {
   earned = (earned_decides log (stated log s) x p.legal (tells_stated log s p.tells)).1 c.earned;
 }
   where
+    c : SixRules (past log) x who
+    c = six_of (past log) x who conforms
+
     entry_bytes : (name : Name) (f : ℕ) → In s.had (name, f) → is_entry name ≡ true → (applied (disk_of (past log)) x).files f ≡ (disk_of (past log)).files f
     entry_bytes (names.Entry root key) f i kind = (c.renamed root key).bytes f (p.tells.files.right (names.Entry root key) f i)
     entry_bytes name f i kind = absurd (false≢true kind)

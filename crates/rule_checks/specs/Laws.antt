@@ -5,7 +5,7 @@ use Rattle.file_log.specs.declared.item.LogItem.{LogItem}
 use Rattle.file_log.specs.Along.{All, Keeps}
 use Rattle.file_log.specs.Legal.{Legal}
 use Rattle.file_log.specs.State.{first}
-use Rattle.folder_rules.specs.Places.{KeepsAt, Cooperating, KeepsBy}
+use Rattle.layout_rules.specs.Places.{KeepsAt, Cooperating, KeepsBy}
 use Rattle.log_summary.specs.Summary.{nothing, summed, summary_of}
 use Rattle.rule_checks.specs.Tests.{PassesTests}
 

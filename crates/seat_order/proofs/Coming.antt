@@ -24,8 +24,8 @@ use Rattle.files_api.specs.Drive.{IsEndOf}
 use Rattle.item_frame.proofs.Numbers.{or_false}
 use Rattle.seat_rules.specs.Changes.{with_item}
 use Rattle.seat_rules.specs.Places.{past}
-use Rattle.folder_rules.specs.Places.{Cooperating, KeepsBy}
-use Rattle.folder_rules.proofs.Placing.{kept_by_each}
+use Rattle.layout_rules.specs.Places.{Cooperating, KeepsBy}
+use Rattle.layout_rules.proofs.Placing.{kept_by_each}
 use Rattle.folder_changes.proofs.Ordering.{stays_in_order}
 use Rattle.folder_store.proofs.Keeping.{CanFollow, follow}
 use Rattle.op_machine.specs.declared.op.Op.{Op}

@@ -31,8 +31,8 @@ use Rattle.files_api.specs.Drive.{IsEndOf}
 use Rattle.item_frame.proofs.Numbers.{or_false}
 use Rattle.seat_rules.specs.Changes.{with_item}
 use Rattle.seat_rules.specs.Places.{past}
-use Rattle.folder_rules.specs.Places.{Cooperating}
-use Rattle.folder_rules.specs.Rules.{KeepsRules}
+use Rattle.layout_rules.specs.Places.{Cooperating}
+use Rattle.layout_rules.specs.Rules.{KeepsRules}
 use Rattle.seat_rules.proofs.Along.{everywhere, there}
 use Rattle.seat_rules.proofs.Histories.{last_of}
 use Rattle.folder_changes.specs.Order.{InOrder}

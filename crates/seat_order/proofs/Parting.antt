@@ -12,11 +12,11 @@ use Rattle.file_log.proofs.All.{all_keep}
 use Rattle.item_frame.proofs.Numbers.{or_false}
 use Rattle.seat_rules.specs.Changes.{with_item}
 use Rattle.seat_rules.specs.Places.{past}
-use Rattle.folder_rules.specs.Places.{Cooperating, KeepsBy}
-use Rattle.folder_rules.specs.Rules.{KeepsRules}
+use Rattle.layout_rules.specs.Places.{Cooperating, KeepsBy}
+use Rattle.layout_rules.specs.Rules.{KeepsRules}
 use Rattle.seat_rules.proofs.Along.{there, all_split}
 use Rattle.seat_rules.proofs.Histories.{goes_by}
-use Rattle.folder_rules.proofs.Placing.{hold_along}
+use Rattle.layout_rules.proofs.Placing.{hold_along}
 use Rattle.seat_order.specs.Apart.{GoesOn}
 
 -- ---- processes

@@ -18,7 +18,7 @@ use Rattle.item_frame.specs.Item.{item_of, IsMeta, Reads}
 use Rattle.item_frame.specs.Writing.{key_count}
 use Rattle.seat_rules.specs.Answers.{is_too_large}
 use Rattle.seat_rules.specs.Operations.{IsInside}
-use Rattle.folder_rules.specs.Rules.{AnswersAreEarned}
+use Rattle.layout_rules.specs.Rules.{AnswersAreEarned}
 use Rattle.folder_rules.specs.Whole.{folder_of}
 use Rattle.folder_changes.proofs.Earning.{earns}
 use Rattle.folder_store.specs.declared.get.Phase.{Phase}

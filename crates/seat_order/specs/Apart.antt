@@ -4,7 +4,7 @@ use Rattle.cache_types.specs.declared.seat.Who.{Who}
 use Rattle.file_log.specs.declared.item.LogItem.{LogItem}
 use Rattle.file_log.specs.State.{state_of}
 use Rattle.seat_rules.specs.Places.{past}
-use Rattle.folder_rules.specs.Places.{Cooperating, KeepsBy}
+use Rattle.layout_rules.specs.Places.{Cooperating, KeepsBy}
 use Rattle.folder_changes.specs.Order.{InOrder}
 use Rattle.seat_order.specs.Places.{Where}
 use Rattle.seat_order.specs.Standing.{Stands}

@@ -6,7 +6,7 @@ use Rattle.file_log.specs.Legal.{IsLegal}
 use Rattle.file_log.specs.Log.{is_own}
 use Rattle.file_log.specs.State.{state_of}
 use Rattle.seat_rules.specs.Places.{past}
-use Rattle.folder_rules.specs.Places.{Cooperating, KeepsBy}
+use Rattle.layout_rules.specs.Places.{Cooperating, KeepsBy}
 use Rattle.seat_order.specs.Places.{Where}
 use Rattle.seat_order.specs.Apart.{IsOrderlyBut}
 use Rattle.seat_order.specs.Operating.{Operates}

@@ -79,7 +79,7 @@ module _ (parts : Parts) (laws : (l : Layout) → IsServed l (parts l)) where
     made_are = earned.made_are;
     mine = earned.mine;
     at_place = earned.at_place;
-    so = (blob, (laws at.store.layout).held_given _ _ _ _ _ earned.so);
+    so = (blob, (laws at.store.layout).held_given _ _ _ _ _ earned.so.0);
   }
   well_held calm who h made at meta blob limit answers.Kept well earned = earned
   well_held calm who h made at meta blob limit answer well earned = absurd (false≢true well)

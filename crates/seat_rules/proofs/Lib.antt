@@ -5,9 +5,11 @@ pub mod Histories
 pub mod Inside
 pub mod Lasting
 pub mod Licensing
+pub mod Limiting
 pub mod Placing
 pub mod Puts
 pub mod Safe
 pub mod Trying
+pub mod Unbuilt
 pub mod Unseated
 pub mod Watching

@@ -1,12 +1,12 @@
 -- After one of a seat's items at a watched place, with an item more.
-use Rattle.std.proofs.Common.{◌≡◌, ◌⊎◌, inl, inr, true, List, [], ◌∷◌, ◌++◌, refl, sym, ap, ◌∙◌, subst, append_assoc, append-nil}
+use Rattle.std.proofs.Common.{◌≡◌, ◌⊎◌, inl, inr, true, List, [], ◌∷◌, ◌++◌, fold, refl, sym, ap, ◌∙◌, subst, append_assoc, append-nil}
 use Rattle.cache_types.specs.declared.seat.Who.{Who}
 use Rattle.file_log.specs.Disk.{Disk}
 use Rattle.file_log.specs.Effect.{applied}
 use Rattle.file_log.specs.Log.{History, is_own, with_items}
 use Rattle.file_log.specs.State.{disk_of}
 use Rattle.file_log.specs.declared.item.LogItem.{LogItem}
-use Rattle.seat_rules.proofs.Histories.{disk_then, last_of}
+use Rattle.seat_rules.proofs.Histories.{disk_then, disk_further, last_of}
 use Rattle.seat_rules.specs.Changes.{with_item}
 use Rattle.seat_rules.specs.Operations.{AfterOne}
 use Rattle.seat_rules.specs.Part.{After}
@@ -74,3 +74,14 @@ after_anywhere Is who h made a = by_list (disk_of h) h made refl a
           at_place = tt;
           so = subst (λ (l : List LogItem). Is (disk_of (with_item (record { start = k.start; log = l }) r.item))) (append_assoc k.log (x ∷ []) r.earlier) r.so;
         }
+
+-- and back, whatever is watched
+pub one_after : (W : History → LogItem → List LogItem → Type 0) (Is : Disk → Type 0) (who : Who) (h : History) (made : List LogItem) → After W Is who h made → AfterOne who Is (disk_of h) made
+one_after W Is who h made a = subst (AfterOne who Is (disk_of h)) (sym a.made_are) (from_front (disk_of h) a.earlier (subst Is then_is a.so))
+  where
+    then_is : disk_of (with_item (with_items h a.earlier) a.item) ≡ applied (fold applied (disk_of h) a.earlier) a.item
+    then_is = disk_then (with_items h a.earlier) a.item ∙ ap (λ (d : Disk). applied d a.item) (disk_further h a.earlier)
+
+    from_front : (d : Disk) (earlier : List LogItem) → Is (applied (fold applied d earlier) a.item) → AfterOne who Is d (earlier ++ a.item ∷ a.later)
+    from_front d [] so = inl (a.mine, so)
+    from_front d (x ∷ earlier) so = inr (from_front (applied d x) earlier so)

@@ -26,6 +26,8 @@ pub record Part : Type 1 where
   -- the blob of the last row, and of some row
   pub holds : Has
   pub gives : Has
+  -- a store of the root is within a put's limit
+  pub fits : Disk → ℕ → ℕ → Type 0
   -- all that stands in its files was put
   pub whole : History → Type 0
   -- what an item of a seat keeps, beside the rules of all layouts
@@ -57,6 +59,7 @@ abbrev pub unbuilt_part : Part
 unbuilt_part = record {
   holds = λ d root driver key blob. ⊥;
   gives = λ d root driver key blob. ⊥;
+  fits = λ d root limit. Unit {0};
   whole = λ h. Unit {0};
   keeps = λ h item who. Unit {0};
   miss_at = anywhere;
@@ -86,6 +89,10 @@ Holds parts d at blob = (parts at.store.layout).holds d at.store.root at.driver 
 
 abbrev pub Gives : Parts → Disk → Address → List ℕ → Type 0
 Gives parts d at blob = (parts at.store.layout).gives d at.store.root at.driver at.key blob
+
+-- the store is within the limit
+abbrev pub Fits : Parts → Disk → Address → ℕ → Type 0
+Fits parts d at limit = (parts at.store.layout).fits d at.store.root limit
 
 -- the store gives some blob
 abbrev pub IsHeld : Parts → Disk → Address → Type 0

@@ -8,8 +8,8 @@ use Rattle.file_log.specs.Log.{is_seat}
 use Rattle.file_log.specs.Seat.{IsIdle}
 use Rattle.file_model.specs.Held.{Held}
 use Rattle.file_model.specs.Seeing.{seen_of}
-use Rattle.folder_rules.specs.Places.{Cooperating, KeepsBy}
-use Rattle.folder_rules.proofs.Placing.{kept_by_each}
+use Rattle.layout_rules.specs.Places.{Cooperating, KeepsBy}
+use Rattle.layout_rules.proofs.Placing.{kept_by_each}
 use Rattle.world_tables.proofs.Finds.{same_seat-true}
 use Rattle.sim_files.specs.Files.{Shown}
 use Rattle.sim_files.specs.Seats.{OthersKeep}

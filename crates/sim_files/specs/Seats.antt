@@ -13,7 +13,7 @@ use Rattle.file_log.specs.State.{first, state_of}
 use Rattle.file_log.specs.Told.{Called}
 use Rattle.file_model.specs.Seeing.{seen_of}
 use Rattle.seat_rules.specs.Places.{past}
-use Rattle.folder_rules.specs.Places.{Cooperating, KeepsBy}
+use Rattle.layout_rules.specs.Places.{Cooperating, KeepsBy}
 use Rattle.seat_order.specs.Operating.{Operates}
 
 -- so many bytes does a call write

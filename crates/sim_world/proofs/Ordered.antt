@@ -13,7 +13,7 @@ use Rattle.file_model.specs.Held.{Held, told}
 use Rattle.files_api.specs.declared.machine.Step.{Step}
 use Rattle.files_api.specs.declared.machine.Step.TheVariants.{Ask, Done}
 use Rattle.seat_rules.specs.Places.{past}
-use Rattle.folder_rules.specs.Places.{Cooperating}
+use Rattle.layout_rules.specs.Places.{Cooperating}
 use Rattle.op_machine.specs.declared.op.Op.{Op}
 use Rattle.op_machine.specs.Machine.{asks, asked}
 use Rattle.seat_order.specs.Places.{Where}

@@ -4,7 +4,7 @@ use Rattle.cache_types.specs.declared.seat.Who.{Who}
 use Rattle.file_log.specs.Legal.{Legal}
 use Rattle.file_log.specs.Log.{History}
 use Rattle.file_log.specs.State.{first}
-use Rattle.folder_rules.specs.Places.{Cooperating}
+use Rattle.layout_rules.specs.Places.{Cooperating}
 use Rattle.seat_order.specs.Operating.{Operates}
 use Rattle.sim_world.specs.declared.turn.Turn.{Turn}
 use Rattle.sim_world.specs.Played.{Played}

@@ -12,11 +12,10 @@ use Rattle.file_log.specs.State.{first, after}
 use Rattle.file_log.specs.declared.item.LogItem.{LogItem}
 use Rattle.seat_rules.proofs.Along.{all_split}
 use Rattle.seat_rules.specs.Places.{At, AtEach, past}
-use Rattle.folder_rules.specs.Places.{KeepsAt, Cooperating}
+use Rattle.layout_rules.specs.Places.{KeepsAt, Cooperating}
 use Rattle.seat_rules.specs.Promises.{IsLicensed, IsFound}
-use Rattle.folder_rules.specs.Rules.{KeepsRules}
-use Rattle.folder_laws.proofs.Finding.{found}
-use Rattle.folder_laws.proofs.Licensing.{licensed}
+use Rattle.layout_rules.specs.Rules.{KeepsRules}
+use Rattle.layout_rules.proofs.Serving.{found, licensed}
 use Rattle.log_summary.specs.Summary.{nothing, summed, summary_of}
 use Rattle.rule_cases.proofs.Everywhere.{tested_by_cases, tested_along}
 use Rattle.rule_cases.specs.Cases.{passes}

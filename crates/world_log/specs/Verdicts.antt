@@ -5,7 +5,7 @@ use Rattle.file_log.specs.Legal.{Legal}
 use Rattle.file_log.specs.State.{first}
 use Rattle.file_model.specs.FirstIllegal.{IsBroken}
 use Rattle.seat_rules.specs.Places.{At}
-use Rattle.folder_rules.specs.Places.{KeepsAt, BreaksAt, Cooperating}
+use Rattle.layout_rules.specs.Places.{KeepsAt, BreaksAt, Cooperating}
 use Rattle.seat_rules.specs.Promises.{IsLicensed, IsFound, Licensed, Found}
 use Rattle.world_log.specs.declared.verdict.Verdict.{Verdict}
 use Rattle.world_log.specs.declared.verdict.Verdict.TheVariants.{Good, IllegalAt, BrokenAt}

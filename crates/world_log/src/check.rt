@@ -22,7 +22,7 @@ use std::alloc::Global;
 /// `BrokenAt` exactly where an item of a seat breaks one of the rules among seats, or is a hit of what
 /// wasn't put, or the answer of a lookup that doesn't find what is promised to it; its number is the first
 /// such. Else `Good`. No hit is unlicensed and no lookup fails to find before a rule is broken
-/// (`folder_laws::all_are_served`), so legality and the rules alone are tested. What the rules ask of the
+/// (`layout_rules::all_are_served`), so legality and the rules alone are tested. What the rules ask of the
 /// log's past is carried along it, not made anew at each place. A rename or a removal of an entry reads
 /// its file once for each address that puts under its root and key began with, another item at none.
 ///

@@ -11,6 +11,7 @@ use Rattle.cache_types.specs.declared.request.Request.{Request}
 use Rattle.cache_types.specs.declared.request.Request.TheVariants as requests
 use Rattle.cache_types.specs.declared.request.RoPlan.{RoPlan}
 use Rattle.cache_types.specs.declared.seat.Who.{Who}
+use Rattle.cache_types.specs.declared.store.Layout.TheVariants.{Folder}
 use Rattle.file_log.specs.Log.{History, WasPut}
 use Rattle.file_log.specs.State.{disk_of}
 use Rattle.file_log.specs.declared.call.Call.TheVariants as calls
@@ -19,16 +20,18 @@ use Rattle.file_log.specs.declared.item.LogItem.TheVariants as items
 use Rattle.file_log.specs.declared.reply.Reply.TheVariants as replies
 use Rattle.item_frame.specs.Item.{item_of}
 use Rattle.seat_rules.specs.Address.{Address, address}
-use Rattle.folder_rules.specs.Holds.{IsHeld}
+use Rattle.layout_rules.specs.Parts.{IsHeld}
 use Rattle.seat_rules.specs.Operations.{IsInside, EvictIsOpen}
-use Rattle.folder_rules.specs.Places.{BreaksAt, Cooperating}
+use Rattle.layout_rules.specs.Places.{BreaksAt, Cooperating}
 use Rattle.seat_rules.specs.Promises.{IsLicensed, IsPromised, IsFound}
 use Rattle.seat_rules.specs.Rules.{OnlyHoldersWrite, NamesStay}
-use Rattle.folder_rules.specs.Rules.{EntriesComeByRename, NothingIsLost, AnswersAreEarned, Conforms, KeepsRules}
+use Rattle.layout_rules.proofs.Folders.{NothingIsLost, conforms_of}
+use Rattle.layout_rules.specs.Rules.{AnswersAreEarned, Conforms, KeepsRules}
+use Rattle.folder_rules.specs.Rules.{EntriesComeByRename}
 use Rattle.folder_rules.specs.Whole.{folder_of, EntriesAreWhole}
 use Rattle.seat_rules.proofs.Along.{past}
 use Rattle.seat_rules.proofs.Inside.{one_inside}
-use Rattle.folder_rules.proofs.Earning.{earned_at}
+use Rattle.layout_rules.proofs.Earning.{earned_at}
 
 abbrev one : Who
 one = record { process = 0; seat = 0 }
@@ -198,14 +201,14 @@ miss_is_not_found found = let clash : false ≡ true = found (refl, (refl, (refl
 
 -- a log of a pause breaks no rule
 pub a_pause_conforms : Conforms (past []) (items.Did one calls.Pause replies.Done) one
-a_pause_conforms = record {
+a_pause_conforms = conforms_of (past []) (items.Did one calls.Pause replies.Done) one (record {
   whole = λ root k bytes file. absurd cc;
   written = λ name other. record { bytes = λ f e. refl; comes = λ kind f e. e; stays = λ kind. refl };
   renamed = λ root k. record { held = λ other. refl; renamed = λ not_so f e. e; stays = λ so. refl; bytes = λ f had. refl };
   stay = λ name. record { lasting = λ kind f e. e; foreign = λ kind. refl; bytes = λ kind f had. refl };
   kept = λ calm a fits held. inl held;
   earned = tt;
-}
+})
 
 pub a_pause_cooperates : Cooperating (items.Did one calls.Pause replies.Done ∷ [])
 a_pause_cooperates zero item e =
@@ -215,4 +218,4 @@ a_pause_cooperates (suc n) item e = absurd cc
 
 -- one that opens an entry's name breaks one at its first place
 pub breaks_at_first : BreaksAt (items.Did one (calls.OpenNew 0 (names.Entry 0 key)) replies.Done ∷ []) 0
-breaks_at_first keeps = not_by_opening ((keeps (items.Did one (calls.OpenNew 0 (names.Entry 0 key)) replies.Done) refl one refl).renamed)
+breaks_at_first keeps = not_by_opening (((keeps (items.Did one (calls.OpenNew 0 (names.Entry 0 key)) replies.Done) refl one refl).kept Folder).renamed)

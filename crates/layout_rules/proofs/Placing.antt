@@ -3,8 +3,8 @@ use Rattle.std.proofs.Common.{◌≡◌, Option, Some, None, sym, ◌∙◌}
 use Rattle.cache_types.specs.declared.seat.Who.{Who}
 use Rattle.file_log.specs.Log.{History, seat_of}
 use Rattle.file_log.specs.declared.item.LogItem.{LogItem}
-use Rattle.folder_rules.specs.Laws.{HoldAlong, AreKeptByEach}
-use Rattle.folder_rules.specs.Rules.{KeepsRules}
+use Rattle.layout_rules.specs.Laws.{HoldAlong, AreKeptByEach}
+use Rattle.layout_rules.specs.Rules.{KeepsRules}
 use Rattle.seat_rules.proofs.Placing as placing
 
 pub hold_along : HoldAlong

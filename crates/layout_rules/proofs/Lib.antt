@@ -1,0 +1,5 @@
+pub mod Earning
+pub mod Folders
+pub mod Placing
+pub mod Serving
+pub mod TwoSeats
