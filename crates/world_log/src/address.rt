@@ -11,7 +11,7 @@ pub struct Address {
 }
 
 impl Model for Address {
-    ghost use Rattle.folder_rules.specs.Holds.{Address as TheAddress};
+    ghost use Rattle.seat_rules.specs.Address.{Address as TheAddress};
 
     ghost Value = { TheAddress };
 
@@ -20,7 +20,7 @@ impl Model for Address {
 
 impl Address {
     ghost use Rattle.std.specs.Prelude.{◌≡◌, ◌&&◌, IfOk};
-    ghost use Rattle.folder_rules.specs.Holds.{address};
+    ghost use Rattle.seat_rules.specs.Address.{address};
     ghost use Rattle.folder_rules.specs.Whole.{folder_of};
     ghost use Rattle.rule_checks.specs.Tests as tests;
 
