@@ -36,6 +36,7 @@ pub mod PutAlong
 pub mod PutKeeps
 pub mod LockStages
 pub mod LockTries
+pub mod LockPauses
 pub mod LockHeld
 pub mod PutPlaces
 pub mod Unlocked

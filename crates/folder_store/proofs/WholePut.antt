@@ -1,6 +1,6 @@
 -- What a whole put does, from its Begin to its End.
 use Rattle.std.specs.List.{AllByRecursion}
-use Rattle.std.proofs.Common.{◌≡◌, ◌≤◌, ◌⊎◌, ◌↔◌, inl, inr, ℕ, true, false, List, [], ◌∷◌, Option, refl, sym, ap, subst, ◌∙◌, arith}
+use Rattle.std.proofs.Common.{◌≡◌, ◌≤◌, ◌⊎◌, ◌↔◌, inl, inr, ℕ, true, false, List, [], ◌∷◌, ◌++◌, Option, refl, sym, ap, subst, ◌∙◌, arith}
 use Rattle.cache_types.specs.declared.answer.Answer.{Answer}
 use Rattle.cache_types.specs.declared.answer.Answer.TheVariants as answers
 use Rattle.cache_types.specs.declared.key.Key.{Key}
@@ -23,10 +23,10 @@ use Rattle.folder_store.proofs.PutCalls.{put_within, same_put_root, put_spends}
 use Rattle.file_log.specs.declared.reply.Reply.{Reply}
 use Rattle.file_log.specs.State.{after, state_of}
 use Rattle.file_log.proofs.All.{none_keeps}
-use Rattle.folder_store.specs.declared.put_phase.TheConstants.{LOCK_TRIES}
-use Rattle.folder_store.specs.Locking.{HeldInRow, lock_replies, ChangesUnderLock}
+use Rattle.folder_store.specs.Locking.{ChangesUnderLock, IsHeldOff, PausesBetweenTries}
 use Rattle.folder_store.proofs.LockHeld.{held_throughout, IsIdleItem, idle_keeps, calm_all}
-use Rattle.folder_store.proofs.LockTries.{IsOf, AreCalm, nothing_calm, tried_lock, busy_is, never_tried, whole_replies, whole_calm}
+use Rattle.folder_store.proofs.LockTries.{IsOf, AreCalm, nothing_calm, all_replies, tried_lock, busy_is, never_tried, whole_tried, whole_calm}
+use Rattle.folder_store.proofs.LockPauses.{none_pauses, pauses_between}
 use Rattle.folder_store.proofs.PutEnds.{put_alone, put_whole, put_tells}
 use Rattle.folder_store.proofs.PutOnDisk.{OnDisk, refused_on_disk, unmade_on_disk}
 use Rattle.folder_store.proofs.PutOutcome.{put_outcome}
@@ -79,7 +79,8 @@ module _ (me : Who) (request : Request) (root : ℕ) (driver : DriverKeys) (key 
           whole = disk.whole;
           tells_first = disk.tells_first;
           locked = none_keeps after (ChangesUnderLock me root key) me (state_of h) news o.own_items;
-          busy = busy_is me root key answer (own me news) (never_tried me root key answer (own me news) r.answer_is (ap lock_replies o.own_items));
+          busy = busy_is me root key answer (own me news) (never_tried me root key answer (own me news) r.answer_is (ap all_replies o.own_items));
+          pauses = none_pauses (own me news) (ap all_replies o.own_items);
           calm = λ e. absurd (no_busy answer r.answer_is e);
           fault = never_fault answer (own me news) r.answer_is (ap any_fault o.own_items);
           want = λ e. never_changes (own me news) (ap any_change o.own_items);
@@ -101,7 +102,8 @@ module _ (me : Who) (request : Request) (root : ℕ) (driver : DriverKeys) (key 
           whole = disk.whole;
           tells_first = disk.tells_first;
           locked = idle_keeps me root key (state_of h) news (subst (AllByRecursion (IsIdleItem me root key)) (sym o.owns.own_items) (idle_begin request, (idle_end answers.NoMemory, tt)));
-          busy = busy_is me root key answer (own me news) (never_tried me root key answer (own me news) r.answer_is (ap lock_replies o.owns.own_items));
+          busy = busy_is me root key answer (own me news) (never_tried me root key answer (own me news) r.answer_is (ap all_replies o.owns.own_items));
+          pauses = none_pauses (own me news) (ap all_replies o.owns.own_items);
           calm = λ e. absurd (no_busy answer r.answer_is e);
           fault = never_fault answer (own me news) r.answer_is (ap any_fault o.owns.own_items);
           want = λ e. never_changes (own me news) (ap any_change o.owns.own_items);
@@ -128,7 +130,6 @@ module _ (me : Who) (request : Request) (root : ℕ) (driver : DriverKeys) (key 
         told = Grows-from old new _ _ r.told (λ h news is_old o.
             let faults : any_fault (own me news) ≡ any_fault inner = ap any_fault o.owns.own_items ∙ any_inside is_fault me request answer inner refl refl in
             let wants : any_want (own me news) ≡ any_want inner = ap any_want o.owns.own_items ∙ any_inside is_want me request answer inner refl refl in
-            let replies : lock_replies (own me news) ≡ lock_replies inner = ap lock_replies o.owns.own_items ∙ whole_replies me root key request answer inner in
             let changes : any_change (own me news) ≡ any_change inner = ap any_change o.owns.own_items ∙ any_inside is_change me request answer inner refl refl in
             let among = put_keeps me request root driver key item r.first r.last r.exchanges r.given answer h news asks begun r.runs r.answer_is o.owns.own_items o.owns.legal o.owns.goes_on (idle h is_old) in
             record {
@@ -137,7 +138,9 @@ module _ (me : Who) (request : Request) (root : ℕ) (driver : DriverKeys) (key 
               whole = put_whole me request root driver key item fits asks answer r.given r.first r.last r.exchanges begun r.runs r.answer_is h news o;
               tells_first = put_tells me request root driver key item fits asks answer r.given r.first r.last r.exchanges begun r.runs r.answer_is h news o;
               locked = held_throughout me root key r.first r.last request answer r.given news (state_of h) r.exchanges of begun.opening r.runs r.answer_is o.owns.own_items o.owns.legal o.owns.goes_on;
-              busy = subst (λ (l : List Reply). (answer ≡ answers.Busy) ↔ HeldInRow LOCK_TRIES l) (sym replies) (subst (λ (a : Answer). (a ≡ answers.Busy) ↔ HeldInRow LOCK_TRIES (lock_replies inner)) (sym same) (busy_is me root key r.given inner tried));
+              busy = subst (λ (made : List LogItem). (answer ≡ answers.Busy) ↔ IsHeldOff root key made) (sym o.owns.own_items)
+                  (subst (λ (a : Answer). (a ≡ answers.Busy) ↔ IsHeldOff root key (Begin me request ∷ (inner ++ End me answer ∷ []))) (sym same) (busy_is me root key r.given _ (whole_tried me root key request r.given answer inner tried)));
+              pauses = subst PausesBetweenTries (sym o.owns.own_items) (pauses_between me root key r.first r.last request r.exchanges r.given answer of begun.opening r.runs);
               calm = λ e. calm_all me root key (state_of h) news (subst (AreCalm me root key) (sym o.owns.own_items) (whole_calm me root key request answer inner (tried.calm (sym same ∙ e))));
               fault = (λ e. faults ∙ out.told (sym same ∙ e), λ some. same ∙ out.only (sym faults ∙ some));
               want = λ e c. wants ∙ out.want (sym same ∙ e) (sym changes ∙ c);

@@ -3,6 +3,7 @@ pub mod Phases
 pub mod Laws
 pub mod Keeping
 pub mod Lookup
+pub mod Readings
 pub mod Locking
 pub mod PutPhases
 pub mod PutLaws

@@ -27,9 +27,8 @@ use Rattle.folder_rules.specs.Holds.{FolderHolds, address, IsHeld}
 use Rattle.folder_rules.specs.Rules.{EntriesStayWhole}
 use Rattle.folder_rules.specs.Whole.{folder_of, EntriesAreWhole}
 use Rattle.folder_store.specs.Entries.{ReplacesTold, OthersSpare}
-use Rattle.folder_store.specs.declared.put_phase.TheConstants.{LOCK_TRIES}
 use Rattle.folder_store.specs.Keeping.{HasKept, KeepsRulesAmong, OthersKeepRules}
-use Rattle.folder_store.specs.Locking.{lock_name, IsUnlocked, HeldInRow, lock_replies, ChangesUnderLock, OwnMakesLockAlone}
+use Rattle.folder_store.specs.Locking.{lock_name, IsUnlocked, IsHeldOff, PausesBetweenTries, ChangesUnderLock, OwnMakesLockAlone}
 use Rattle.folder_store.specs.PutPhases.{most_put_calls}
 
 -- an answer that a put ends with
@@ -156,8 +155,10 @@ pub record Puts (me : Who) (request : Request) (root : ℕ) (driver : DriverKeys
   pub tells_first : All with_item (OthersSpare me root key) h news → Keeps with_item ReplacesTold me h news
   -- it changes names and files under the lock of the key's folder alone, as long as no other seat takes the lock file its name
   pub locked : Keeps after (ChangesUnderLock me root key) me (state_of h) news
-  -- it is busy exactly where 64 of its tries in a row to take that lock were answered that another seat holds it
-  pub busy : (answer ≡ Busy) ↔ HeldInRow LOCK_TRIES (lock_replies (own me news))
+  -- it is busy exactly where 64 of its tries in a row to take that lock, of one file, were answered that another seat holds it
+  pub busy : (answer ≡ Busy) ↔ IsHeldOff root key (own me news)
+  -- and between any two of its tries it pauses
+  pub pauses : PausesBetweenTries (own me news)
   -- and then it has changed nothing, but that the lock file may be there now
   pub calm : answer ≡ Busy → All after (OwnMakesLockAlone me root key) (state_of h) news
   -- it answers a fault exactly where one of its calls failed other than for want of memory
