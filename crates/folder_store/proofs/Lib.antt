@@ -37,6 +37,8 @@ pub mod PutKeeps
 pub mod LockStages
 pub mod LockTries
 pub mod LockPauses
+pub mod PutCourse
+pub mod PutReadings
 pub mod LockHeld
 pub mod PutPlaces
 pub mod Unlocked

@@ -16,6 +16,7 @@ use Rattle.files_api.specs.Drive.{items_of_all, IsEndOf, Refused, Unmade, Operat
 use Rattle.folder_store.specs.declared.put.FolderPut.{FolderPut}
 use Rattle.folder_store.specs.declared.put_phase.PutPhase.{PutPhase}
 use Rattle.folder_store.specs.Put.{IsPutAnswer, AsksPut, PutDone, ReplacesEvicted, blob_in, is_change, is_want}
+use Rattle.folder_store.specs.Readings.{ReadsItem}
 use Rattle.folder_store.specs.PutPhases.{IsNewPut, asks_put, asked_put, FedPut, most_put_calls, put_left_in}
 use Rattle.folder_store.proofs.Items.{any_fault, any_want, any_change, all_within, all_counted}
 use Rattle.folder_store.proofs.Operations.{Grows-from, no_fault, never_fault, any_inside}
@@ -27,7 +28,8 @@ use Rattle.folder_store.specs.Locking.{ChangesUnderLock, IsHeldOff, PausesBetwee
 use Rattle.folder_store.proofs.LockHeld.{held_throughout, IsIdleItem, idle_keeps, calm_all}
 use Rattle.folder_store.proofs.LockTries.{IsOf, AreCalm, nothing_calm, all_replies, tried_lock, busy_is, never_tried, whole_tried, whole_calm}
 use Rattle.folder_store.proofs.LockPauses.{none_pauses, pauses_between}
-use Rattle.folder_store.proofs.PutEnds.{put_alone, put_whole, put_tells}
+use Rattle.folder_store.proofs.PutEnds.{put_alone, put_whole, put_tells, put_stores}
+use Rattle.folder_store.proofs.PutReadings.{put_reads}
 use Rattle.folder_store.proofs.PutOnDisk.{OnDisk, refused_on_disk, unmade_on_disk}
 use Rattle.folder_store.proofs.PutOutcome.{put_outcome}
 use Rattle.folder_rules.specs.Changes.{with_item}
@@ -48,6 +50,12 @@ end_is given answer kind (inr lack) = absurd (lack.1 (small given kind))
     small answers.FilesFault k = tt
     small answers.NoMemory k = tt
     small a k = absurd k
+
+no_stored : (answer : Answer) → answer ≡ answers.NoMemory → answer ≡ answers.Stored → ⊥
+no_stored answer e f = let clash : answers.NoMemory ≡ answers.Stored = sym e ∙ f in absurd cc
+
+no_kept : (answer : Answer) → answer ≡ answers.NoMemory → answer ≡ answers.Kept → ⊥
+no_kept answer e f = let clash : answers.NoMemory ≡ answers.Kept = sym e ∙ f in absurd cc
 
 no_busy : (answer : Answer) → answer ≡ answers.NoMemory → answer ≡ answers.Busy → ⊥
 no_busy answer e f = let clash : answers.NoMemory ≡ answers.Busy = sym e ∙ f in absurd cc
@@ -78,6 +86,8 @@ module _ (me : Who) (request : Request) (root : ℕ) (driver : DriverKeys) (key 
           alone = disk.alone;
           whole = disk.whole;
           tells_first = disk.tells_first;
+          stores = λ spare e. absurd (no_stored answer r.answer_is e);
+          kept = λ e. absurd (no_kept answer r.answer_is e);
           locked = none_keeps after (ChangesUnderLock me root key) me (state_of h) news o.own_items;
           busy = busy_is me root key answer (own me news) (never_tried me root key answer (own me news) r.answer_is (ap all_replies o.own_items));
           pauses = none_pauses (own me news) (ap all_replies o.own_items);
@@ -101,6 +111,8 @@ module _ (me : Who) (request : Request) (root : ℕ) (driver : DriverKeys) (key 
           alone = disk.alone;
           whole = disk.whole;
           tells_first = disk.tells_first;
+          stores = λ spare e. absurd (no_stored answer r.answer_is e);
+          kept = λ e. absurd (no_kept answer r.answer_is e);
           locked = idle_keeps me root key (state_of h) news (subst (AllByRecursion (IsIdleItem me root key)) (sym o.owns.own_items) (idle_begin request, (idle_end answers.NoMemory, tt)));
           busy = busy_is me root key answer (own me news) (never_tried me root key answer (own me news) r.answer_is (ap all_replies o.owns.own_items));
           pauses = none_pauses (own me news) (ap all_replies o.owns.own_items);
@@ -137,6 +149,8 @@ module _ (me : Who) (request : Request) (root : ℕ) (driver : DriverKeys) (key 
               alone = put_alone me request root driver key item fits asks answer r.given r.first r.last r.exchanges begun r.runs r.answer_is h news o within;
               whole = put_whole me request root driver key item fits asks answer r.given r.first r.last r.exchanges begun r.runs r.answer_is h news o;
               tells_first = put_tells me request root driver key item fits asks answer r.given r.first r.last r.exchanges begun r.runs r.answer_is h news o;
+              stores = put_stores me request root driver key item fits asks answer r.given r.first r.last r.exchanges begun r.runs r.answer_is h news o;
+              kept = λ e. subst (ReadsItem root driver key) (sym o.owns.own_items) (put_reads me root driver key r.given r.first r.last request r.exchanges answer of begun.driver_is begun.opening r.runs (sym same ∙ e));
               locked = held_throughout me root key r.first r.last request answer r.given news (state_of h) r.exchanges of begun.opening r.runs r.answer_is o.owns.own_items o.owns.legal o.owns.goes_on;
               busy = subst (λ (made : List LogItem). (answer ≡ answers.Busy) ↔ IsHeldOff root key made) (sym o.owns.own_items)
                   (subst (λ (a : Answer). (a ≡ answers.Busy) ↔ IsHeldOff root key (Begin me request ∷ (inner ++ End me answer ∷ []))) (sym same) (busy_is me root key r.given _ (whole_tried me root key request r.given answer inner tried)));

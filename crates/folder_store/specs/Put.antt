@@ -21,7 +21,7 @@ use Rattle.file_log.specs.Log.{History, with_items, is_own, own}
 use Rattle.file_log.specs.Operation.{IsOperation, IsStill, is_fault}
 use Rattle.file_log.specs.State.{after, state_of, disk_of}
 use Rattle.file_log.specs.Told.{Grows, Rose}
-use Rattle.item_frame.specs.Item.{ReadsAs}
+use Rattle.item_frame.specs.Item.{item_of, ReadsAs}
 use Rattle.folder_rules.specs.Changes.{with_item, is_rename}
 use Rattle.folder_rules.specs.Holds.{FolderHolds, address, IsHeld}
 use Rattle.folder_rules.specs.Rules.{EntriesStayWhole}
@@ -30,6 +30,7 @@ use Rattle.folder_store.specs.Entries.{ReplacesTold, OthersSpare}
 use Rattle.folder_store.specs.Keeping.{HasKept, KeepsRulesAmong, OthersKeepRules}
 use Rattle.folder_store.specs.Locking.{lock_name, IsUnlocked, IsHeldOff, PausesBetweenTries, ChangesUnderLock, OwnMakesLockAlone}
 use Rattle.folder_store.specs.PutPhases.{most_put_calls}
+use Rattle.folder_store.specs.Readings.{ReadsItem}
 
 -- an answer that a put ends with
 abbrev pub IsPutAnswer : Answer → Type 0
@@ -53,6 +54,11 @@ blob_in (requests.Put store driver key meta blob limit) = blob
 blob_in request = []
 
 -- ---- what it leaves
+
+-- the entry's whole file is the item of the driver, the meta and the blob that a put asks to be stored
+abbrev pub HoldsItem : Request → Disk → Type 0
+HoldsItem (requests.Put store driver key meta blob limit) d = file_of d (Entry store.root key) ≡ Some (item_of driver meta blob)
+HoldsItem request d = ⊥
 
 -- Stored: the store held none and now holds the put's own, and no temporary name is left. Kept: it held one, and nothing changed.
 -- It isn't Busy. After a failure, or for want of memory, the entry is as it was.
@@ -153,6 +159,10 @@ pub record Puts (me : Who) (request : Request) (root : ℕ) (driver : DriverKeys
   pub whole : All with_item (OthersSpare me root key) h news → EntriesAreWhole h → Keeps with_item EntriesStayWhole me h news
   -- and it replaces no entry of a driver before it told that this goes
   pub tells_first : All with_item (OthersSpare me root key) h news → Keeps with_item ReplacesTold me h news
+  -- and where it stored, it left the entry the whole item that was asked for
+  pub stores : All with_item (OthersSpare me root key) h news → answer ≡ Stored → HoldsItem request (disk_of (with_items h news))
+  -- it kept only where it read the entry, and what it read is an item of the driver
+  pub kept : answer ≡ Kept → ReadsItem root driver key (own me news)
   -- it changes names and files under the lock of the key's folder alone, as long as no other seat takes the lock file its name
   pub locked : Keeps after (ChangesUnderLock me root key) me (state_of h) news
   -- it is busy exactly where 64 of its tries in a row to take that lock, of one file, were answered that another seat holds it
