@@ -40,6 +40,8 @@ pub mod LockPauses
 pub mod PutCourse
 pub mod PutReadings
 pub mod LockHeld
+pub mod PutFrame
+pub mod PutGivesUp
 pub mod PutPlaces
 pub mod Unlocked
 pub mod PutEnds

@@ -7,5 +7,6 @@ pub mod Readings
 pub mod Locking
 pub mod PutPhases
 pub mod PutLaws
+pub mod OwnChanges
 pub mod Entries
 pub mod Put
