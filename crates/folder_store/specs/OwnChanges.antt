@@ -47,8 +47,9 @@ pub record PlacesTemp (root : ℕ) (key : Key) (made : List LogItem) (item : Log
   pub renames : is_rename (Temp root key) (Entry root key) item ≡ true
   pub opened : HasOpenTemp root key made
 
--- What an own item changes on the disk, after these own items: the lock file and the temporary file at most come, the entry changes by the renaming of
--- the temporary file alone, no other name changes its file, and no file its bytes that the seat has not opened under the temporary name.
+-- What an own item changes on the disk, after these own items: the lock file and the temporary file at most come, the entry changes by the
+-- renaming of the temporary file alone, no other name changes its file, and no file its bytes that the seat has not opened under the
+-- temporary name.
 pub record ChangesOwn (me : Who) (root : ℕ) (key : Key) (made : List LogItem) (item : LogItem) (old new : Disk) : Type 0 where
   pub elsewhere : (name : Name) → IsElsewhere root key name → new.names name ≡ old.names name
   pub lock : AtMostComes (lock_name root key) old new
