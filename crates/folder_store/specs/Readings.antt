@@ -42,7 +42,7 @@ pub record HasOpen (slot : ℕ) (name : Name) (made : List LogItem) : Type 0 whe
 
 -- ---- what was read
 
--- the whole file in the slot was read: its length was told, and then so many bytes were asked for from its front, which were these
+-- the whole file in the slot was read: its length was told, then so many bytes were asked for from its front, and these were got
 pub record Yields (slot : ℕ) (bytes : List ℕ) (made : List LogItem) : Type 0 where
   pub who : Who
   pub n : ℕ
