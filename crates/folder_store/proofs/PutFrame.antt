@@ -36,7 +36,7 @@ use Rattle.folder_store.specs.declared.put_phase.Look.TheVariants.{First}
 use Rattle.folder_store.specs.declared.put_phase.PutPhase.{PutPhase}
 use Rattle.folder_store.specs.declared.put_phase.PutPhase.TheVariants.{Opening}
 use Rattle.folder_store.specs.Locking.{lock_name}
-use Rattle.folder_store.specs.OwnChanges.{HasCome, AtMostComes, HasOpenTemp, PlacesTemp, ChangesOwn, KeepsToOwn}
+use Rattle.folder_store.specs.OwnChanges.{AtMostComes, HasOpenTemp, PlacesTemp, ChangesOwn, KeepsToOwn}
 use Rattle.folder_store.specs.PutPhases.{asks_put, asked_put, FedPut}
 use Rattle.folder_store.specs.Readings.{is_moved, HasOpen}
 use Rattle.folder_store.proofs.LockHeld.{seat_is}

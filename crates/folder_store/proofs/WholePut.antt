@@ -22,7 +22,6 @@ use Rattle.folder_store.specs.PutPhases.{IsNewPut, asks_put, asked_put, FedPut, 
 use Rattle.folder_store.proofs.Items.{any_fault, any_want, any_change, all_within, all_counted}
 use Rattle.folder_store.proofs.Operations.{Grows-from, no_fault, never_fault, any_inside}
 use Rattle.folder_store.proofs.PutCalls.{put_within, same_put_root, put_spends}
-use Rattle.file_log.specs.declared.reply.Reply.{Reply}
 use Rattle.file_log.specs.State.{after, state_of}
 use Rattle.file_log.proofs.All.{none_keeps}
 use Rattle.folder_store.specs.Locking.{ChangesUnderLock, IsHeldOff, PausesBetweenTries}
