@@ -18,7 +18,7 @@ use Rattle.file_log.specs.Operation.{NamesOnly, IsWithinRoot, is_next, next_plac
 use Rattle.files_api.specs.declared.machine.Step.{Step}
 use Rattle.files_api.specs.declared.machine.Step.TheVariants.{Ask}
 use Rattle.files_api.specs.Drive.{IsWithin, Runs, items_of_all}
-use Rattle.folder_store.specs.Put.{is_change, is_want}
+use Rattle.folder_store.specs.OwnChanges.{is_change, is_want}
 
 -- ---- the root in which they stand
 
@@ -225,17 +225,19 @@ pub refused_wants : (me : Who) (call : Call) → IsNoNote call → any_want (ite
 refused_wants me (calls.Tell note) other = absurd other
 refused_wants me call other = refl
 
--- a call that cuts, writes and renames no file
+-- a call that cuts, writes, renames and removes no file
 abbrev pub IsQuiet : Call → Type 0
 IsQuiet (calls.Cut slot n) = ⊥
 IsQuiet (calls.WriteAt slot at bytes) = ⊥
 IsQuiet (calls.Rename from to) = ⊥
+IsQuiet (calls.Remove name) = ⊥
 IsQuiet call = Unit {0}
 
 pub quiet_changes : (me : Who) (call : Call) (reply : Reply) (made : List LogItem) → IsQuiet call → Makes me true call reply made → any_change made ≡ false
 quiet_changes me (calls.Cut slot n) reply made quiet makes = absurd quiet
 quiet_changes me (calls.WriteAt slot at bytes) reply made quiet makes = absurd quiet
 quiet_changes me (calls.Rename from to) reply made quiet makes = absurd quiet
+quiet_changes me (calls.Remove name) reply made quiet makes = absurd quiet
 quiet_changes me (calls.Tell (notes.Begin request)) replies.Done made quiet makes = ap any_change makes
 quiet_changes me (calls.Tell (notes.Evict store driver key)) replies.Done made quiet makes = ap any_change makes
 quiet_changes me (calls.Tell (notes.End answer)) replies.Done made quiet makes = ap any_change makes

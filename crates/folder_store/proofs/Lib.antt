@@ -36,7 +36,12 @@ pub mod PutAlong
 pub mod PutKeeps
 pub mod LockStages
 pub mod LockTries
+pub mod LockPauses
+pub mod PutCourse
+pub mod PutReadings
 pub mod LockHeld
+pub mod PutFrame
+pub mod PutGivesUp
 pub mod PutPlaces
 pub mod Unlocked
 pub mod PutEnds

@@ -54,7 +54,7 @@ abbrev seat_at : ℕ → ℕ → Who
 seat_at process seat = record { process = process; seat = seat }
 
 -- two seats that are the same
-seat_is : (a b : Who) → same_seat a b ≡ true → a ≡ b
+pub seat_is : (a b : Who) → same_seat a b ≡ true → a ≡ b
 seat_is a b e = both (nat_eq a.process b.process) (nat_eq a.seat b.seat) refl refl e
   where
     both : (x y : Bool) → nat_eq a.process b.process ≡ x → nat_eq a.seat b.seat ≡ y → (x && y) ≡ true → a ≡ b

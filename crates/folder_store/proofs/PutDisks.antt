@@ -13,7 +13,8 @@ use Rattle.disk_laws.specs.Tidy.{IsTidy}
 use Rattle.file_log.proofs.All.{seat_self}
 use Rattle.folder_store.specs.Entries.{IsSpared}
 use Rattle.folder_store.specs.Locking.{lock_name}
-use Rattle.folder_store.specs.Put.{IsElsewhere, KeepsLock, LeavesElsewhere}
+use Rattle.folder_store.specs.OwnChanges.{IsElsewhere}
+use Rattle.folder_store.specs.Put.{KeepsLock, LeavesElsewhere}
 
 -- ---- names
 

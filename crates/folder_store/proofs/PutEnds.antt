@@ -1,5 +1,5 @@
 -- What a whole put does to the disk, alone and among others.
-use Rattle.std.proofs.Common.{◌≡◌, ℕ, Bool, true, false, nat_eq, List, [], ◌∷◌, ◌++◌, length, filter, fold, refl, sym, ap, ◌∙◌, subst, arith}
+use Rattle.std.proofs.Common.{◌≡◌, ℕ, Bool, true, false, nat_eq, List, [], ◌∷◌, ◌++◌, length, filter, fold, Some, refl, sym, ap, ◌∙◌, subst, arith}
 use Rattle.std.specs.List.{AllByRecursion}
 use Rattle.std.proofs.lemmas.Bool.{false≢true, ne_eqb}
 use Rattle.std.proofs.lemmas.List.{append-nil}
@@ -7,11 +7,13 @@ use Rattle.std.proofs.lemmas.List.Elements.{filter-append}
 use Rattle.std.proofs.lemmas.List.Sums.{fold-append}
 use Rattle.cache_types.specs.Driver.{DriverKeys, IsDriver}
 use Rattle.cache_types.specs.declared.answer.Answer.{Answer}
+use Rattle.cache_types.specs.declared.answer.Answer.TheVariants.{Stored}
 use Rattle.cache_types.specs.declared.key.Key.{Key}
 use Rattle.cache_types.specs.declared.name.Name.TheVariants.{Entry}
 use Rattle.cache_types.specs.declared.request.Request.{Request}
 use Rattle.cache_types.specs.declared.request.Request.TheVariants as requests
 use Rattle.cache_types.specs.declared.seat.Who.{Who}
+use Rattle.cache_types.specs.declared.store.Store.{Store}
 use Rattle.file_log.specs.declared.call.Call.TheVariants.{Rename}
 use Rattle.file_log.specs.declared.item.LogItem.{LogItem}
 use Rattle.file_log.specs.declared.item.LogItem.TheVariants as items
@@ -28,7 +30,7 @@ use Rattle.file_log.specs.Told.{OwnsToEnd}
 use Rattle.file_log.proofs.All.{seat_self}
 use Rattle.disk_laws.proofs.Tidiness.{tidy}
 use Rattle.files_api.specs.Drive.{Runs, items_of_all, IsEndOf}
-use Rattle.item_frame.specs.Item.{Reads}
+use Rattle.item_frame.specs.Item.{Reads, item_of}
 use Rattle.item_frame.proofs.Laws.{Reads-from_as, at_least}
 use Rattle.folder_store.specs.declared.put.FolderPut.{FolderPut}
 use Rattle.seat_rules.specs.Address.{address}
@@ -38,7 +40,7 @@ use Rattle.folder_rules.specs.Rules.{EntriesStayWhole}
 use Rattle.folder_rules.specs.Whole.{folder_of, EntriesAreWhole}
 use Rattle.folder_store.specs.Entries.{ReplacesTold, IsSpared, OthersSpare}
 use Rattle.folder_store.specs.Locking.{IsUnlocked}
-use Rattle.folder_store.specs.Put.{AsksPut, blob_in, Leaves, LeavesElsewhere, TellsEvicts, PutsAlone, is_evict}
+use Rattle.folder_store.specs.Put.{AsksPut, blob_in, Leaves, HoldsItem, LeavesElsewhere, TellsEvicts, PutsAlone, is_evict}
 use Rattle.folder_store.specs.PutPhases.{IsNewPut, asks_put, asked_put, FedPut}
 use Rattle.folder_store.proofs.PutKnown.{Job, Place, step}
 use Rattle.folder_store.proofs.PutRules.{AreWhole, Replaces, IsRight}
@@ -55,6 +57,27 @@ asked_reads request root driver key item asks = absurd asks
 -- no item is empty
 pub filled : (driver : DriverKeys) (item blob : List ℕ) → Reads driver item blob → nat_eq (length item) 0 ≡ false
 filled driver item blob reads = ne_eqb (length item) 0 (λ empty. absurd (omega (arith, empty, at_least driver item blob reads)))
+
+-- the item is that of the driver, meta and blob that are asked for
+holds_item : (request : Request) (root : ℕ) (driver : DriverKeys) (key : Key) (item : List ℕ) (d : Disk) → AsksPut request root driver key item → file_of d (Entry root key) ≡ Some item → HoldsItem request d
+holds_item (requests.Put store driver' key' meta blob limit) root driver key item d asks e =
+    let root_is : store.root ≡ root = ap (λ (s : Store). s.root) asks.0 in
+    let names : Entry store.root key' ≡ Entry root key = ap (λ (r : ℕ). Entry r key') root_is ∙ ap (λ (k : Key). Entry root k) asks.2 in
+    let item_is : item ≡ item_of driver' meta blob = asks.3.whole ∙ ap (λ (k : DriverKeys). item_of k meta blob) (sym asks.1) in
+    ap (file_of d) names ∙ e ∙ ap (λ (bytes : List ℕ). Some bytes) item_is
+holds_item request root driver key item d asks e = absurd asks
+
+-- two lists that end alike
+abbrev last_of : LogItem → List LogItem → LogItem
+last_of x [] = x
+last_of x (y ∷ log) = last_of y log
+
+last_is : (z : LogItem) (log : List LogItem) (x : LogItem) → last_of z (log ++ x ∷ []) ≡ x
+last_is z [] x = refl
+last_is z (y ∷ log) x = last_is y log x
+
+same_last : (xs ys : List LogItem) (x y : LogItem) → xs ++ x ∷ [] ≡ ys ++ y ∷ [] → x ≡ y
+same_last xs ys x y e = sym (last_is x xs x) ∙ ap (last_of x) e ∙ last_is x ys y
 
 -- ---- along the log
 
@@ -119,6 +142,30 @@ module _ (me : Who) (request : Request) (root : ℕ) (driver : DriverKeys) (key 
     pub put_tells : (h : History) (news : List LogItem) → OwnsToEnd me made h news → All with_item (OthersSpare me root key) h news → Keeps with_item ReplacesTold me h news
     put_tells h news o spare = keeps_told false h (place_of h) news (record { state = refl; log = refl }) (right_from false h news o spare (λ is. absurd (false≢true is)) (λ is. absurd (false≢true is)))
 
+    -- ---- what it stored
+
+    last_own : (news before : List LogItem) (item' : LogItem) → own me news ≡ made → news ≡ before ++ item' ∷ [] → is_own me item' ≡ true → item' ≡ items.End me answer
+    last_own news before item' is e mine =
+        let one : own me (item' ∷ []) ≡ item' ∷ [] = rw mine refl in
+        let split : own me news ≡ own me before ++ item' ∷ [] = ap (own me) e ∙ filter-append (is_own me) before (item' ∷ []) ∙ ap (λ (l : List LogItem). own me before ++ l) one in
+        same_last (own me before) (items.Begin me request ∷ items_of_all xs) item' (items.End me answer) (sym split ∙ is)
+
+    pub put_stores : (h : History) (news : List LogItem) → OwnsToEnd me made h news → All with_item (OthersSpare me root key) h news → answer ≡ Stored → HoldsItem request (disk_of (with_items h news))
+    put_stores h news o spare stored =
+        let all = right_from false h news o spare (λ is. absurd (false≢true is)) (λ is. absurd (false≢true is)) in
+        let e = o.ends tt in
+        let last : e.1 ≡ items.End me answer = last_own news e.0 e.1 o.owns.own_items e.2 e.3 in
+        let news_are : news ≡ e.0 ++ items.End me answer ∷ [] = e.2 ∙ ap (λ (x : LogItem). e.0 ++ x ∷ []) last in
+        let all' : All (step me) (IsKept false) (place_of h) (e.0 ++ items.End me answer ∷ []) = subst (λ (l : List LogItem). All (step me) (IsKept false) (place_of h) l) news_are all in
+        let p : Place = fold (step me) (place_of h) e.0 in
+        let right : IsRight (job false) p (items.End me answer) = all_at (step me) (IsKept false) (place_of h) e.0 [] (items.End me answer) all' (seat_self me) in
+        let here : file_of p.state.disk (Entry root key) ≡ Some item = right.ends.0 stored in
+        let state : fold after (state_of h) (e.0 ++ items.End me answer ∷ []) ≡ after p.state (items.End me answer) =
+        fold-append after (state_of h) e.0 (items.End me answer ∷ []) ∙ ap (λ (s : State). after s (items.End me answer)) (sym (states me (place_of h) e.0)) in
+        let disk : p.state.disk ≡ disk_of (with_items h (e.0 ++ items.End me answer ∷ [])) = ap (λ (s : State). s.disk) (sym state ∙ sym (state_then h (e.0 ++ items.End me answer ∷ []))) in
+        let there : file_of (disk_of (with_items h (e.0 ++ items.End me answer ∷ []))) (Entry root key) ≡ Some item = subst (λ (d : Disk). file_of d (Entry root key) ≡ Some item) disk here in
+        holds_item request root driver key item (disk_of (with_items h news)) asks (subst (λ (l : List LogItem). file_of (disk_of (with_items h l)) (Entry root key) ≡ Some item) (sym news_are) there)
+
     -- ---- alone
 
     abbrev inner : List LogItem
@@ -144,7 +191,7 @@ module _ (me : Who) (request : Request) (root : ℕ) (driver : DriverKeys) (key 
         let state : fold after (state_of h) made ≡ after p.state (items.End me answer) =
         fold-append after (state_of h) before_end (items.End me answer ∷ []) ∙ ap (λ (s : State). after s (items.End me answer)) (sym (states me (place_of h) before_end)) in
         let disk : p.state.disk ≡ disk_of (with_items h made) = ap (λ (s : State). s.disk) (sym state ∙ sym (state_then h made)) in
-        let here : IsAlone p.base p.state.disk p.told = right.ends refl in
+        let here : IsAlone p.base p.state.disk p.told = right.ends.1 refl in
         subst (λ (d : Disk). IsAlone d (disk_of (with_items h made)) (filter is_evict made)) base
         (subst (λ (d : Disk). IsAlone p.base d (filter is_evict made)) disk (subst (λ (l : List LogItem). IsAlone p.base p.state.disk l) all_told here))
 

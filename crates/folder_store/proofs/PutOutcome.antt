@@ -25,7 +25,8 @@ use Rattle.folder_store.specs.declared.put_phase.Look.{Look}
 use Rattle.folder_store.specs.declared.put_phase.Look.TheVariants.{First, Second}
 use Rattle.folder_store.specs.declared.put_phase.PutPhase.{PutPhase}
 use Rattle.folder_store.specs.declared.put_phase.PutPhase.TheVariants.{Opening, Measuring, Reading, ReadingFront, Leaving, OpeningLock, Locking, Pausing, Evicting, Evicted, Making, Cutting, Writing, Renaming, ClosingEntry, ClosingTemp, ClosingLock, Ended, Spent}
-use Rattle.folder_store.specs.Put.{IsPutAnswer, is_change, is_want}
+use Rattle.folder_store.specs.OwnChanges.{is_change, is_want}
+use Rattle.folder_store.specs.Put.{IsPutAnswer}
 use Rattle.folder_store.specs.PutPhases.{asks_put, asks_put_in, asked_put, after_put_asking, too_long, closing, Fronted, Judged, NextPut, FedPut}
 use Rattle.folder_store.proofs.Items.{IsNoNote, IsQuiet, any_fault, any_want, any_change, failures_told, tests_faults, tests_wants, refused_no_fault, refused_wants, quiet_changes}
 use Rattle.folder_store.proofs.PutCalls.{put_next_of}

@@ -2,6 +2,7 @@
 use Rattle.std.proofs.Common.{◌≡◌, ◌⊎◌, inl, inr, ℕ, Bool, true, false, List, [], ◌∷◌, ◌++◌, Option, Some, None, refl, sym, ap, ◌∙◌, subst}
 use Rattle.cache_types.specs.Driver.{DriverKeys, Fronts}
 use Rattle.cache_types.specs.Names.{same_name}
+use Rattle.cache_types.specs.declared.answer.Answer.TheVariants as answers
 use Rattle.cache_types.specs.declared.key.Key.{Key}
 use Rattle.cache_types.specs.declared.name.Name.{Name}
 use Rattle.cache_types.specs.declared.name.Name.TheVariants.{Entry}
@@ -38,10 +39,11 @@ pub whole_still : (log : List LogItem) (d d' : Disk) (x : LogItem) → IsStill d
 whole_still log d d' x still whole root key bytes e = put_item_on log (x ∷ []) root key bytes (whole root key bytes (sym (still_file d d' (Entry root key) still) ∙ e))
 
 module _ (j : Job) where
-  -- what its End says where no other seat has an item
+  -- what its End says: where it stored, the entry is the item; and where no other seat has an item, all that is left
   abbrev pub Ends : Place → LogItem → Type 0
   Ends p (items.End who answer) =
-      j.alone ≡ true → Leaves j.root j.driver j.key j.blob answer p.base p.state.disk × LeavesElsewhere j.root j.key p.base p.state.disk × TellsEvicts j.me j.root j.key (old j p) answer p.told
+      (answer ≡ answers.Stored → file_of p.state.disk (Entry j.root j.key) ≡ Some j.item)
+      × (j.alone ≡ true → Leaves j.root j.driver j.key j.blob answer p.base p.state.disk × LeavesElsewhere j.root j.key p.base p.state.disk × TellsEvicts j.me j.root j.key (old j p) answer p.told)
   Ends p x = Unit {0}
 
   -- an item keeps all of it

@@ -1,5 +1,5 @@
 -- A put among others: each of its own items keeps what PutRules says.
-use Rattle.std.proofs.Common.{◌≡◌, inl, inr, ℕ, true, false, nat_eq, List, [], ◌∷◌, ◌++◌, length, Option, refl, sym, ap, ◌∙◌, subst}
+use Rattle.std.proofs.Common.{◌≡◌, inl, inr, ℕ, true, false, nat_eq, List, [], ◌∷◌, ◌++◌, length, Option, Some, refl, sym, ap, ◌∙◌, subst}
 use Rattle.std.proofs.lemmas.Bool.{false≢true}
 use Rattle.std.proofs.lemmas.List.{append-nil}
 use Rattle.std.proofs.lemmas.List.Elements.{Contains-push}
@@ -44,7 +44,7 @@ use Rattle.folder_store.specs.Entries.{IsSpared}
 use Rattle.folder_store.specs.Locking.{IsUnlocked}
 use Rattle.folder_store.specs.Put.{AsksPut, Leaves, LeavesElsewhere, TellsEvicts}
 use Rattle.folder_store.specs.PutPhases.{IsNewPut, asks_put, asks_put_in, asked_put, after_put_asking, item_after, FedPut, NextPut}
-use Rattle.folder_store.proofs.PutKnown.{Job, Place, step, other_base, other_told, other_end, Base, base_on, Looking, Answered, KnowsAt, Spares, knows_on, written_on, going_on, rests_goes, old}
+use Rattle.folder_store.proofs.PutKnown.{Job, Place, step, other_base, other_told, other_end, Base, base_on, Looking, Replaced, Answered, KnowsAt, Spares, knows_on, written_on, going_on, rests_goes, old}
 use Rattle.folder_store.proofs.PutRules.{IsRight, whole_still}
 use Rattle.folder_store.proofs.PutSteps.{AnswersIn, asks_at, Follows, Stepped, into, ready_excused}
 use Rattle.folder_store.proofs.PutMakes.{MakesIn, none_asked}
@@ -252,6 +252,9 @@ module _ (j : Job) (request : Request) (fits : IsDriver j.driver) (filled : nat_
   leaves_of answers.NoMemory p alone k = k.entry
   leaves_of answer p alone k = absurd k
 
+  stored_of : (answer : Answer) (p : Place) → Answered j answer p → answer ≡ answers.Stored → file_of p.state.disk (Entry j.root j.key) ≡ Some j.item
+  stored_of answer p k e = let replaced : Replaced j p = subst (λ (a : Answer). Answered j a p) e k in replaced.entry
+
   tells_of : (answer : Answer) (p : Place) → j.alone ≡ true → Answered j answer p → TellsEvicts j.me j.root j.key (old j p) answer p.told
   tells_of answers.Stored p alone k = k.told
   tells_of answers.Kept p alone k = k.looking.quiet
@@ -269,7 +272,7 @@ module _ (j : Job) (request : Request) (fits : IsDriver j.driver) (filled : nat_
       record {
         whole = whole_still p.log p.state.disk p.state.disk (End j.me answer) still;
         replaces = tt;
-        ends = λ alone. (leaves_of answer p alone k, inv.1.elsewhere alone, tells_of answer p alone k);
+        ends = (stored_of answer p k, λ alone. (leaves_of answer p alone k, inv.1.elsewhere alone, tells_of answer p alone k));
       }
 
   outer : (first : FolderPut) (answer : Answer) → IsNewPut j.root j.driver j.key j.item first → Outer asks_put j.me (step j.me) Fair Rule Between IsReady first request answer

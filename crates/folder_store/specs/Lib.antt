@@ -3,8 +3,10 @@ pub mod Phases
 pub mod Laws
 pub mod Keeping
 pub mod Lookup
+pub mod Readings
 pub mod Locking
 pub mod PutPhases
 pub mod PutLaws
+pub mod OwnChanges
 pub mod Entries
 pub mod Put

@@ -1,15 +1,16 @@
 -- The lock of a folder: whose name it has, who holds it, and what is done under it.
-use Rattle.std.specs.Prelude.{◌≡◌, ◌⊎◌, ◌<◌, ℕ, true, false, List, [], ◌∷◌, ◌++◌, replicate, Some}
+use Rattle.std.specs.Prelude.{◌≡◌, ◌⊎◌, ◌<◌, ℕ, nat_eq, Bool, true, false, List, [], ◌∷◌, ◌++◌, replicate, Some, if◌then◌else◌}
+use Rattle.std.specs.List.{list_any}
 use Rattle.cache_types.specs.declared.key.Key.{Key}
 use Rattle.cache_types.specs.declared.name.Name.{Name}
 use Rattle.cache_types.specs.declared.name.Name.TheVariants.{FolderLock}
 use Rattle.cache_types.specs.declared.seat.Who.{Who}
 use Rattle.cache_types.specs.Names.{same_name}
-use Rattle.file_log.specs.declared.call.Call.TheVariants.{TryLock}
+use Rattle.file_log.specs.declared.call.Call.TheVariants.{TryLock, Pause}
 use Rattle.file_log.specs.declared.item.LogItem.{LogItem}
 use Rattle.file_log.specs.declared.item.LogItem.TheVariants as items
 use Rattle.file_log.specs.declared.reply.Reply.{Reply}
-use Rattle.file_log.specs.declared.reply.Reply.TheVariants.{Held}
+use Rattle.file_log.specs.declared.reply.Reply.TheVariants.{Done, Held}
 use Rattle.file_log.specs.Disk.{Disk, lock_in}
 use Rattle.file_log.specs.Effect.{applied}
 use Rattle.file_log.specs.Legal.{is_held}
@@ -17,6 +18,7 @@ use Rattle.file_log.specs.Log.{is_own}
 use Rattle.file_log.specs.State.{State}
 use Rattle.folder_changes.specs.Frame.{HasFolder}
 use Rattle.seat_rules.specs.Kinds.{folder_byte}
+use Rattle.folder_store.specs.Readings.{Meanwhile, HasOpen}
 
 -- ---- whose lock it is
 
@@ -30,17 +32,37 @@ IsUnlocked me root key d = is_held me (lock_in d (d.names (lock_name root key)))
 
 -- ---- tries
 
--- the replies to the TryLocks among these items, in their order
-abbrev pub lock_replies : List LogItem → List Reply
-lock_replies [] = []
-lock_replies (items.Did who (TryLock slot) reply ∷ log) = reply ∷ lock_replies log
-lock_replies (item ∷ log) = lock_replies log
+-- the replies to the tries for the lock of the slot's file among these items, in their order
+abbrev pub lock_replies : ℕ → List LogItem → List Reply
+lock_replies slot [] = []
+lock_replies slot (items.Did who (TryLock other) reply ∷ log) = if nat_eq slot other then reply ∷ lock_replies slot log else lock_replies slot log
+lock_replies slot (item ∷ log) = lock_replies slot log
 
--- so many replies Held stand in a row
-pub record HeldInRow (count : ℕ) (replies : List Reply) : Type 0 where
-  pub before : List Reply
-  pub later : List Reply
-  pub replies_are : replies ≡ before ++ (replicate count Held ++ later)
+-- Of one seat's items: 64 tries in a row for the lock of one file, which the seat opened as the lock file of the key's folder, were answered
+-- that another seat holds it.
+pub record IsHeldOff (root : ℕ) (key : Key) (made : List LogItem) : Type 0 where
+  pub before : List LogItem
+  pub tries : List LogItem
+  pub later : List LogItem
+  pub made_are : made ≡ before ++ (tries ++ later)
+  pub slot : ℕ
+  pub file : HasOpen slot (lock_name root key) before
+  pub meanwhile : Meanwhile slot tries
+  pub held : lock_replies slot tries ≡ replicate 64 Held
+
+-- a try for a lock, and a pause
+abbrev pub is_try : LogItem → Bool
+is_try (items.Did who (TryLock slot) reply) = true
+is_try item = false
+
+abbrev pub is_pause : LogItem → Bool
+is_pause (items.Did who Pause Done) = true
+is_pause item = false
+
+-- between any two tries among these items stands a pause
+abbrev pub PausesBetweenTries : List LogItem → Type 0
+PausesBetweenTries made =
+    (before between later : List LogItem) (one other : LogItem) → made ≡ before ++ one ∷ (between ++ other ∷ later) → is_try one ≡ true → is_try other ≡ true → list_any is_pause between ≡ true
 
 -- a TryLock is of a slot with the lock file of the key's folder
 abbrev pub TriesLock : ℕ → Key → Disk → LogItem → Type 0

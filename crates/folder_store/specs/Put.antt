@@ -10,18 +10,15 @@ use Rattle.cache_types.specs.declared.request.Request.{Request}
 use Rattle.cache_types.specs.declared.request.Request.TheVariants as requests
 use Rattle.cache_types.specs.declared.seat.Who.{Who}
 use Rattle.cache_types.specs.Driver.{DriverKeys, Fronts, HasNoFront}
-use Rattle.cache_types.specs.Names.{same_name}
-use Rattle.file_log.specs.declared.call.Call.TheVariants.{Cut, Rename}
 use Rattle.file_log.specs.declared.item.LogItem.{LogItem}
 use Rattle.file_log.specs.declared.item.LogItem.TheVariants as items
-use Rattle.file_log.specs.declared.reply.Reply.TheVariants.{Done}
 use Rattle.file_log.specs.Along.{All, Keeps}
 use Rattle.file_log.specs.Disk.{Disk, file_of}
 use Rattle.file_log.specs.Log.{History, with_items, is_own, own}
 use Rattle.file_log.specs.Operation.{IsOperation, IsStill, is_fault}
 use Rattle.file_log.specs.State.{after, state_of, disk_of}
 use Rattle.file_log.specs.Told.{Grows, Rose}
-use Rattle.item_frame.specs.Item.{ReadsAs}
+use Rattle.item_frame.specs.Item.{item_of, ReadsAs}
 use Rattle.seat_rules.specs.Changes.{with_item, is_rename}
 use Rattle.seat_rules.specs.Address.{address}
 use Rattle.layout_rules.specs.Parts.{IsHeld}
@@ -29,10 +26,11 @@ use Rattle.folder_rules.specs.Holds.{FolderHolds}
 use Rattle.folder_rules.specs.Rules.{EntriesStayWhole}
 use Rattle.folder_rules.specs.Whole.{folder_of, EntriesAreWhole}
 use Rattle.folder_store.specs.Entries.{ReplacesTold, OthersSpare}
-use Rattle.folder_store.specs.declared.put_phase.TheConstants.{LOCK_TRIES}
 use Rattle.folder_store.specs.Keeping.{HasKept, KeepsRulesAmong, OthersKeepRules}
-use Rattle.folder_store.specs.Locking.{lock_name, IsUnlocked, HeldInRow, lock_replies, ChangesUnderLock, OwnMakesLockAlone}
+use Rattle.folder_store.specs.Locking.{lock_name, IsUnlocked, IsHeldOff, PausesBetweenTries, ChangesUnderLock, OwnMakesLockAlone}
+use Rattle.folder_store.specs.OwnChanges.{IsElsewhere, KeepsToOwn, GivesUp}
 use Rattle.folder_store.specs.PutPhases.{most_put_calls}
+use Rattle.folder_store.specs.Readings.{ReadsItem}
 
 -- an answer that a put ends with
 abbrev pub IsPutAnswer : Answer → Type 0
@@ -57,6 +55,11 @@ blob_in request = []
 
 -- ---- what it leaves
 
+-- the entry's whole file is the item of the driver, the meta and the blob that a put asks to be stored
+abbrev pub HoldsItem : Request → Disk → Type 0
+HoldsItem (requests.Put store driver key meta blob limit) d = file_of d (Entry store.root key) ≡ Some (item_of driver meta blob)
+HoldsItem request d = ⊥
+
 -- Stored: the store held none and now holds the put's own, and no temporary name is left. Kept: it held one, and nothing changed.
 -- It isn't Busy. After a failure, or for want of memory, the entry is as it was.
 abbrev pub Leaves : ℕ → DriverKeys → Key → List ℕ → Answer → Disk → Disk → Type 0
@@ -64,12 +67,6 @@ Leaves root driver key blob Stored old new = (IsHeld old (address (folder_of roo
 Leaves root driver key blob Kept old new = IsHeld old (address (folder_of root) driver key) × IsStill old new
 Leaves root driver key blob Busy old new = ⊥
 Leaves root driver key blob answer old new = file_of new (Entry root key) ≡ file_of old (Entry root key)
-
--- a name that is neither the key's entry, nor its temporary file, nor the lock file of its folder
-pub record IsElsewhere (root : ℕ) (key : Key) (name : Name) : Type 0 where
-  pub no_entry : same_name name (Entry root key) ≡ false
-  pub no_temp : same_name name (Temp root key) ≡ false
-  pub no_lock : same_name name (lock_name root key) ≡ false
 
 -- the lock file has the bytes that it had; where it wasn't there, it still isn't, or is empty
 abbrev pub KeepsLock : Option (List ℕ) → Option (List ℕ) → Type 0
@@ -130,20 +127,6 @@ pub record PutsAlone (me : Who) (root : ℕ) (driver : DriverKeys) (key : Key) (
   pub elsewhere : LeavesElsewhere root key old new
   pub evicts : TellsEvicts me root key (file_of old (Entry root key)) answer (filter is_evict made)
 
--- ---- want of memory
-
--- an item that cuts, writes or renames a file
-abbrev pub is_change : LogItem → Bool
-is_change (items.Did who (Cut slot n) Done) = true
-is_change (items.Did who (Rename from to) Done) = true
-is_change (items.Byte who slot at value) = true
-is_change item = false
-
--- a call was refused memory
-abbrev pub is_want : LogItem → Bool
-is_want (items.Failed who memory) = memory
-is_want item = false
-
 -- ---- a put among others
 
 -- A seat put a blob into a folder store: a history h went on by these new items.
@@ -156,16 +139,24 @@ pub record Puts (me : Who) (request : Request) (root : ℕ) (driver : DriverKeys
   pub whole : All with_item (OthersSpare me root key) h news → EntriesAreWhole h → Keeps with_item EntriesStayWhole me h news
   -- and it replaces no entry of a driver before it told that this goes
   pub tells_first : All with_item (OthersSpare me root key) h news → Keeps with_item ReplacesTold me h news
+  -- and where it stored, it left the entry the whole item that was asked for
+  pub stores : All with_item (OthersSpare me root key) h news → answer ≡ Stored → HoldsItem request (disk_of (with_items h news))
+  -- it kept only where it read the entry, and what it read is an item of the driver
+  pub kept : answer ≡ Kept → ReadsItem root driver key (own me news)
+  -- each of its items changes at most its own: the lock file comes, the temporary name and its bytes, and the entry by the renaming of that
+  pub frame : All with_item (KeepsToOwn me root key) h news
   -- it changes names and files under the lock of the key's folder alone, as long as no other seat takes the lock file its name
   pub locked : Keeps after (ChangesUnderLock me root key) me (state_of h) news
-  -- it is busy exactly where 64 of its tries in a row to take that lock were answered that another seat holds it
-  pub busy : (answer ≡ Busy) ↔ HeldInRow LOCK_TRIES (lock_replies (own me news))
+  -- it is busy exactly where 64 of its tries in a row to take that lock, of one file, were answered that another seat holds it
+  pub busy : (answer ≡ Busy) ↔ IsHeldOff root key (own me news)
+  -- and between any two of its tries it pauses
+  pub pauses : PausesBetweenTries (own me news)
   -- and then it has changed nothing, but that the lock file may be there now
   pub calm : answer ≡ Busy → All after (OwnMakesLockAlone me root key) (state_of h) news
   -- it answers a fault exactly where one of its calls failed other than for want of memory
   pub fault : (answer ≡ FilesFault) ↔ (list_any is_fault (own me news) ≡ true)
-  -- once it has changed a file it answers want of memory only where a call was refused it
-  pub want : answer ≡ NoMemory → list_any is_change (own me news) ≡ true → list_any is_want (own me news) ≡ true
+  -- one that gives up has not replaced the entry, and after it changed a file it answers want of memory only where a call was refused it
+  pub gives_up : GivesUp root key answer (own me news)
   -- among seats that keep the rules it keeps them too
   pub keeps : KeepsRulesAmong me h news
   -- and each of its Evicts names what stands in front of the key's entry then

@@ -227,9 +227,9 @@ put_hurt_in (ClosingLock answer) = true
 put_hurt_in (Ended answer) = true
 put_hurt_in phase = false
 
--- a put makes at most so many calls: so many tries of the lock, a pause before each but the first, and sixteen others
+-- a put makes at most so many calls: 64 tries of the lock, a pause before each but the first, and sixteen others
 abbrev pub most_put_calls : ℕ
-most_put_calls = LOCK_TRIES + (LOCK_TRIES - 1) + 16
+most_put_calls = 143
 
 -- so many calls are left at most
 abbrev pub put_left_in : PutPhase → ℕ

@@ -14,6 +14,14 @@ use std::alloc::Global;
 /// that another seat holds it, `FilesFault` exactly where a call failed, or `NoMemory`; after the last two
 /// the entry is as it was. A put that is busy changes nothing, but that the lock file may be there, empty.
 ///
+/// Whatever other seats do: it ends in `Kept` only where it was told the length of the entry's file, asked for
+/// so many bytes of it, and got an item of the driver; in `Stored` exactly where it gave its temporary file the
+/// entry's name, and where others leave the entry and that file alone the entry then is the whole item, its
+/// meta too. The 64 tries are of one file, which it opened as the folder's lock file, and between any two of
+/// them it pauses. Each own item changes at most this: the lock file comes, the temporary file comes and gets
+/// bytes, and the entry by the renaming of that. Once it has changed a file it ends in `NoMemory` only where a
+/// call was refused memory.
+///
 /// Names and files are changed under that lock alone, as long as other seats leave the lock file its name. In
 /// a log that is told, the own items are one operation of at most 143 calls in this root, or none where there
 /// was no memory to begin one. Among seats that keep the rules they keep them, and each `Evict` names what

@@ -37,6 +37,12 @@ fn store_of(request: &Request) -> Option<Store>
 /// Afterwards every slot of the seat is empty, and the files may be used again, whatever the answer. Where
 /// there is no memory to begin, nothing is told and the answer is `NoMemory`.
 ///
+/// A put that ends in `Stored` left its entry the whole item of the driver, the meta and the blob, where others
+/// leave the entry and its temporary file alone. Whatever they do, it ends in `Kept` only where it read an item
+/// of the driver from the entry, and in `Busy` exactly where 64 tries in a row of its folder's lock, with a pause
+/// between any two, found that another seat holds it; and each of its items changes at most the lock file, which
+/// may come, its temporary file, and the entry by the renaming of that, which comes only with `Stored`.
+///
 /// Others may act between any two of its calls, be stopped, and meet failures. In a log that began on an empty
 /// disk a seat that was not the first to break a rule isn't the first by this operation either. As long as no
 /// seat breaks one, `Miss` says that after one of its own items the store held no such blob.

@@ -1,9 +1,10 @@
 -- What the machine of a request gives at its end, and what may be told of that.
-use Rattle.std.proofs.Common.{◌≡◌, inl, inr, nat_lt, Bool, true, false, List, [], ◌∷◌, length, refl, sym, ap, ◌∙◌, subst}
+use Rattle.std.proofs.Common.{◌≡◌, inl, inr, ℕ, nat_lt, Bool, true, false, List, [], ◌∷◌, length, refl, sym, ap, ◌∙◌, subst}
 use Rattle.std.proofs.lemmas.Bool.{ltb-true, ltb-false}
 use Rattle.cache_types.specs.Answers.{IsSmall}
 use Rattle.cache_types.specs.declared.answer.Answer.{Answer}
 use Rattle.cache_types.specs.declared.answer.Answer.TheVariants as answers
+use Rattle.cache_types.specs.declared.key.Key.{Key}
 use Rattle.cache_types.specs.declared.limits.TheConstants.{MAX_BLOB}
 use Rattle.cache_types.specs.declared.request.Request.{Request}
 use Rattle.cache_types.specs.declared.request.Request.TheVariants as requests
@@ -73,7 +74,7 @@ module _ (me : Who) where
       let out = outcome me first r.0 xs given opening r.1 in
       record { kind = out.kind; fault = (out.told, out.only) }
 
-  put_gives : (first : FolderPut) (last : Op) (xs : List Exchange) (given : Answer) → first.phase ≡ puts.Opening First → Runs asks asked Fed me (ops.Put first) xs given last → EndsPut given (items_of_all xs)
+  put_gives : (first : FolderPut) (last : Op) (xs : List Exchange) (given : Answer) → first.phase ≡ puts.Opening First → Runs asks asked Fed me (ops.Put first) xs given last → EndsPut first.root first.key given (items_of_all xs)
   put_gives first last xs given opening run =
       let r = kind_runs asks_put asked_put FedPut ops.Put put_kind me first last xs given run in
       let out = put_outcome me first r.0 xs given opening r.1 in
@@ -83,7 +84,9 @@ module _ (me : Who) where
   gives_so : (request : Request) (first m : Op) (xs : List Exchange) (given : Answer) → IsOpOf request first → RunsTo me first xs m → asks m ≡ Done given → EndsFor request given (items_of_all xs)
   gives_so (requests.Get store driver key ro) (ops.Get first) m xs given new runs e = get_gives first (asked m) xs given new.opening (runs_out me (ops.Get first) m xs given runs e)
   gives_so (requests.Put store driver key meta blob limit) (ops.Put first) m xs given new runs e =
-      inl (new.0, put_gives first (asked m) xs given new.1.opening (runs_out me (ops.Put first) m xs given runs e))
+      let gives = put_gives first (asked m) xs given new.1.opening (runs_out me (ops.Put first) m xs given runs e) in
+      let at_root = subst (λ (r : ℕ). EndsPut r first.key given (items_of_all xs)) new.1.root_is gives in
+      inl (new.0, subst (λ (k : Key). EndsPut store.root k given (items_of_all xs)) new.1.key_is at_root)
   gives_so (requests.Put store driver key meta blob limit) (ops.Refuse first) m [] given new runs e =
       inr (new.0, inl (sym (done_is (answers.TooLarge (length blob)) given (sym (ap given_step new.1) ∙ (ap asks runs ∙ e)))))
   gives_so (requests.Put store driver key meta blob limit) (ops.Refuse first) m (x ∷ xs) given new runs e = no_ask first.answer x.call runs.0
@@ -100,7 +103,7 @@ pub none_ends : (me : Who) (request : Request) → EndsFor request answers.NoMem
 none_ends me (requests.Get store driver key ro) = record { kind = tt; fault = (λ e. absurd cc, λ e. absurd cc) }
 none_ends me (requests.Put store driver key meta blob limit) = by_size (nat_lt MAX_BLOB (length blob)) refl
   where
-    nothing_put : EndsPut answers.NoMemory []
+    nothing_put : EndsPut store.root key answers.NoMemory []
     nothing_put = record { kind = tt; fault = (λ e. absurd cc, λ e. absurd cc); busy = busy_is me store.root key answers.NoMemory [] (never_tried me store.root key answers.NoMemory [] refl refl) }
 
     by_size : (b : Bool) → nat_lt MAX_BLOB (length blob) ≡ b → EndsFor (requests.Put store driver key meta blob limit) answers.NoMemory []

@@ -3,6 +3,7 @@ use Rattle.std.specs.Prelude.{◌≡◌, ◌⊎◌, ◌↔◌, ◌≤◌, ◌<�
 use Rattle.std.specs.List.{AllByRecursion, list_any}
 use Rattle.cache_types.specs.declared.answer.Answer.{Answer}
 use Rattle.cache_types.specs.declared.answer.Answer.TheVariants.{Busy, FilesFault, TooLarge, NoMemory}
+use Rattle.cache_types.specs.declared.key.Key.{Key}
 use Rattle.cache_types.specs.declared.limits.TheConstants.{MAX_BLOB}
 use Rattle.cache_types.specs.declared.request.Request.{Request}
 use Rattle.cache_types.specs.declared.request.Request.TheVariants as requests
@@ -13,8 +14,7 @@ use Rattle.file_log.specs.Log.{is_own, own}
 use Rattle.file_log.specs.Operation.{IsWithinRoot, calls_in, is_fault}
 use Rattle.seat_rules.specs.Answers.{root_of}
 use Rattle.seat_rules.specs.Operations.{IsInside}
-use Rattle.folder_store.specs.declared.put_phase.TheConstants.{LOCK_TRIES}
-use Rattle.folder_store.specs.Locking.{HeldInRow, lock_replies}
+use Rattle.folder_store.specs.Locking.{IsHeldOff}
 use Rattle.folder_store.specs.Lookup.{IsLookupAnswer}
 use Rattle.folder_store.specs.Put.{IsPutAnswer}
 use Rattle.folder_store.specs.PutPhases.{most_put_calls}
@@ -39,12 +39,12 @@ pub record EndsLookup (answer : Answer) (made : List LogItem) : Type 0 where
   pub kind : IsLookupAnswer answer
   pub fault : (answer ≡ FilesFault) ↔ (list_any is_fault made ≡ true)
 
--- what a put ends with: an answer of one, a fault as a lookup's, and busy exactly where so many tries of the lock in a row found that another
--- seat has it
-pub record EndsPut (answer : Answer) (made : List LogItem) : Type 0 where
+-- what a put under this key in this root ends with: an answer of one, a fault as a lookup's, and busy exactly where 64 tries in a row of the
+-- lock of the key's folder found that another seat has it
+pub record EndsPut (root : ℕ) (key : Key) (answer : Answer) (made : List LogItem) : Type 0 where
   pub kind : IsPutAnswer answer
   pub fault : (answer ≡ FilesFault) ↔ (list_any is_fault made ≡ true)
-  pub busy : (answer ≡ Busy) ↔ HeldInRow LOCK_TRIES (lock_replies made)
+  pub busy : (answer ≡ Busy) ↔ IsHeldOff root key made
 
 -- what a put of n bytes ends with, which are too many: that they are, or that there was no memory
 abbrev pub EndsLarge : ℕ → Answer → Type 0
@@ -53,7 +53,7 @@ EndsLarge n answer = (answer ≡ TooLarge n) ⊎ (answer ≡ NoMemory)
 -- an answer of the request, whose cause is among these items; a request that isn't served ends for want of memory alone
 abbrev pub EndsFor : Request → Answer → List LogItem → Type 0
 EndsFor (requests.Get store driver key ro) answer made = EndsLookup answer made
-EndsFor (requests.Put store driver key meta blob limit) answer made = ((length blob ≤ MAX_BLOB) × EndsPut answer made) ⊎ ((MAX_BLOB < length blob) × EndsLarge (length blob) answer)
+EndsFor (requests.Put store driver key meta blob limit) answer made = ((length blob ≤ MAX_BLOB) × EndsPut store.root key answer made) ⊎ ((MAX_BLOB < length blob) × EndsLarge (length blob) answer)
 EndsFor request answer made = answer ≡ NoMemory
 
 -- ---- at the places of a log
