@@ -1,5 +1,5 @@
-ghost use Rattle.std.specs.Prelude.{◌≡◌, ◌↔◌, ◌⊎◌, ◌≤◌, ◌-◌, ◌^◌, ◌∷◌, [], length, min, true, false, Ok, Err, IsOk, IfOk, OnOk, IfErr, Some, IfSome, unwrap_or, IsTrue};
-ghost use Rattle.std.specs.Fs.{new_options, with_read, with_write, with_create};
+ghost use Rattle.std.specs.Prelude.{◌≡◌, ◌↔◌, ◌⊎◌, ◌≤◌, ◌-◌, ◌^◌, ◌∷◌, [], length, min, true, false, Ok, Err, IsOk, IfOk, OnOk, OnErr, IfErr, pos, Some, IfSome, unwrap_or, IsTrue};
+ghost use Rattle.std.specs.Fs.{new_options, with_read, with_write, with_create, file_type, IsDir, IsFile};
 ghost use Rattle.std.specs.IoError.{error_kind};
 ghost use Rattle.std.specs.List.{All};
 ghost use Rattle.std.specs.List.Sorted.{IsSorted};
@@ -12,14 +12,17 @@ ghost use Rattle.hex.specs.Hex.{encode_lower};
 ghost use Rattle.cache_types.specs.declared.key.Key.{Key};
 ghost use Rattle.cache_types.specs.declared.limits.TheConstants.{MAX_ITEM};
 ghost use Rattle.host_files.specs.Faults.{IsFaultOf};
+ghost use Rattle.host_files.specs.declared.fault.Fault.TheVariants as faults;
+ghost use Rattle.host_files.specs.declared.reason.Reason.TheVariants as reasons;
 ghost use Rattle.host_files.specs.Names.{IsEntry, StartsWith};
 ghost use Rattle.host_files.specs.Waits.{sleep_after};
 
 use crate::fault::Fault;
+use crate::reason::{IS_A_FOLDER, Reason};
 use cache_types::{Bytes, Key, KeyList, MAX_ITEM};
 use hex::FromHex;
 use std::alloc::Global;
-use std::fs::{DirEntry, File, OpenOptions, ReadDir, TryLockError};
+use std::fs::{DirEntry, File, Metadata, OpenOptions, ReadDir, TryLockError};
 use std::io::ErrorKind;
 use std::os::unix::fs::FileExt;
 use std::path::Path;
@@ -55,7 +58,7 @@ fn open<R: RealFiles<File = File>>(rt: &R, path: &str, create: bool) -> io::Resu
 /// What isn't found is no fault; another error is one.
 fn pass_missing(error: io::Error) -> Result<(), Fault>
     ensures missing { IsOk result ↔ (error_kind error ≡ NotFound) }
-    ensures fault { IfErr result (IsFaultOf (error_kind error)) }
+    ensures fault { IfErr result (IsFaultOf error) }
 {
     match error.kind() {
         ErrorKind::NotFound => Ok(()),
@@ -89,10 +92,23 @@ pub fn open_old<R: RealFiles<File = File>>(rt: &R, path: &str) -> Result<Option<
 /// The same for reading alone. A folder could be opened so, and a pipe would wait for its writer: what isn't
 /// a plain file is a fault.
 fn open_denied<R: RealFiles<File = File>>(rt: &R, path: &str) -> Result<Option<File>, Fault> {
-    if !fs::metadata(rt, path)?.is_file() {
-        return Err(Fault::Failed);
-    }
+    only_plain(&fs::metadata(rt, path)?)?;
     Ok(Some(OpenOptions::new().read(true).open(rt, path)?))
+}
+
+/// A file that isn't plain is a fault.
+fn only_plain(found: &Metadata) -> Result<(), Fault>
+    ensures plain { IsOk result ↔ IsFile (file_type found.now) }
+    ensures folder { IsDir (file_type found.now) → result ≡ Err (faults.Failed (reasons.System (pos 21))) }
+    ensures fault { OnErr result ((IsDir (file_type found.now) → ⊥) → result ≡ Err (faults.Failed reasons.NoPlainFile)) }
+{
+    if found.is_file() {
+        return Ok(());
+    }
+    if found.is_dir() {
+        return Err(Fault::Failed(Reason::System(IS_A_FOLDER)));
+    }
+    Err(Fault::Failed(Reason::NoPlainFile))
 }
 
 /// The file of a path, or a new empty one. Folders are made only where the system finds that they aren't
@@ -127,7 +143,7 @@ pub fn take_lock(file: &File) -> Result<bool, Fault> {
 fn is_taken(tried: Result<(), TryLockError>) -> Result<bool, Fault>
     ensures taken { IsOk tried ↔ (result ≡ Ok true) }
     ensures held { (tried ≡ Err WouldBlock) ↔ (result ≡ Ok false) }
-    ensures fault { (error : IoError) → tried ≡ Err (Error error) → IfErr result (IsFaultOf (error_kind error)) }
+    ensures fault { (error : IoError) → tried ≡ Err (Error error) → IfErr result (IsFaultOf error) }
 {
     match tried {
         Ok(()) => Ok(true),
@@ -183,7 +199,7 @@ fn read_into(file: &File, into: &mut [u8], at: u64) -> Result<usize, Fault>
             Err(error) => again_if_interrupted(error)?,
         }
     }
-    Err(Fault::Failed)
+    Err(Fault::Failed(Reason::Other))
 }
 
 /// Writes all bytes, from a place on. No bytes take no call of the system.
@@ -196,18 +212,18 @@ pub fn write(file: &File, at: u64, bytes: &[u8]) -> Result<(), Fault>
             return Ok(());
         }
         match file.write_at(&bytes[put..], at.saturating_add(put as u64)) {
-            Ok(0) => return Err(Fault::Failed),
+            Ok(0) => return Err(Fault::Failed(Reason::NothingWritten)),
             Ok(n) => put += n,
             Err(error) => again_if_interrupted(error)?,
         }
     }
-    Err(Fault::Failed)
+    Err(Fault::Failed(Reason::Other))
 }
 
 /// A call that a signal interrupted is made again; another error is a fault.
 pub fn again_if_interrupted(error: io::Error) -> Result<(), Fault>
     ensures interrupted { IsOk result ↔ (error_kind error ≡ Interrupted) }
-    ensures fault { IfErr result (IsFaultOf (error_kind error)) }
+    ensures fault { IfErr result (IsFaultOf error) }
 {
     match error.kind() {
         ErrorKind::Interrupted => Ok(()),

@@ -3,9 +3,9 @@ ghost use Rattle.file_log.specs.Seat.{IsIdle};
 
 mod calls;
 
-use crate::HostFiles;
+use crate::{FirstFault, HostFiles};
 use cache_types::{Bytes, Name, NoMemory, Text, TextList, Who};
-use calls::{KEY, cut, look_up, make, pause_often, remove, rename, time};
+use calls::{KEY, cut, look_up, make, overwrite, pause_often, remove, rename, time};
 use file_log::Reply;
 use files_api::Files;
 use path_names::Paths;
@@ -131,6 +131,74 @@ fn reads_what_stands_there(rt: HostRuntime) -> io::Result<()> {
         assert_eq!(rt; found(rt, folder, name), want);
     }
     fs::remove_dir_all(&rt, folder)
+}
+
+/// A failure as it is told to a person.
+fn line_of(alloc: Global, fault: Option<&FirstFault>) -> Result<String, NoMemory> {
+    match fault {
+        Some(fault) => {
+            let (path, reason) = (fault.path(), fault.reason());
+            Ok(format!(in alloc; "{path}: {reason}")?)
+        }
+        None => Ok(String::from_str(alloc, "none")?),
+    }
+}
+
+/// What is told of the first failure after a lookup under a folder.
+fn why_not_found(rt: HostRuntime, folder: &str, name: Name) -> Result<String, NoMemory> {
+    let mut files = files_in(rt.alloc(), rt, folder)?;
+    let _found = look_up(&mut files, name);
+    line_of(rt.alloc(), files.first_fault())
+}
+
+/// The same after a byte was to be written into a name's file.
+fn why_not_written(rt: HostRuntime, name: Name) -> Result<String, NoMemory> {
+    let byte = Bytes::of(rt.alloc(), b"a")?;
+    let mut files = files_in(rt.alloc(), rt, "no_folder")?;
+    let _written = overwrite(&mut files, name, byte);
+    line_of(rt.alloc(), files.first_fault())
+}
+
+/// Whether a line is this one.
+fn is_line(line: Result<String, NoMemory>, want: &str) -> bool {
+    match line {
+        Ok(line) => line.as_str() == want,
+        Err(_) => false,
+    }
+}
+
+#[test]
+fn first_failure_is_told(rt: HostRuntime) -> io::Result<()> {
+    let folder = "first_failure_is_told";
+    begin(rt, folder, "first_failure_is_told/index")?;
+    fs::create_dir(&rt, "first_failure_is_told/mesa_cache.db")?;
+    let rows = [
+        (Name::KeyIndex { root: 0 }, "none"),
+        (
+            Name::Db { root: 0 },
+            "first_failure_is_told/mesa_cache.db: Is a directory",
+        ),
+        (
+            Name::KeyIndex { root: 1 },
+            "first_failure_is_told/index/index: Not a directory",
+        ),
+        (Name::KeyIndex { root: 2 }, ": No path has this name"),
+    ];
+    for (name, want) in rows {
+        assert!(rt; is_line(why_not_found(rt, folder, name), want), "{want}");
+    }
+    fs::remove_dir_all(&rt, folder)
+}
+
+/// The path of a slot is the one that it was opened by.
+#[test]
+fn path_of_a_slot_is_told(rt: HostRuntime) -> io::Result<()> {
+    if fs::metadata(&rt, LIST).is_err() {
+        return Ok(());
+    }
+    let want = "/sys/devices/system/cpu/online: Illegal seek";
+    assert!(rt; is_line(why_not_written(rt, Name::List), want));
+    Ok(())
 }
 
 #[test]

@@ -10,7 +10,7 @@ use std::{fs, io};
 fn word<T: Drop>(done: Result<T, Fault>) -> &'static str {
     match done {
         Ok(_) => "done",
-        Err(Fault::Failed) => "failed",
+        Err(Fault::Failed(_)) => "failed",
         Err(Fault::NoMemory) => "no memory",
     }
 }
