@@ -5,7 +5,7 @@ use crate::first_fault::FirstFault;
 use crate::opened::Opened;
 use crate::reason::Reason;
 use crate::seat::Seat;
-use crate::system;
+use crate::{opening, system};
 use cache_types::{Bytes, Name, NoMemory, Text, Who};
 use file_log::{Call, Note, Reply};
 use files_api::Files;
@@ -17,14 +17,18 @@ use std::rt::{Clock, Files as RealFiles};
 /// Real files under a program's paths, which one seat calls. No log is told.
 ///
 /// - `Missing` is answered only where the system finds nothing at the path. A folder in a file's place, a
-///   path through a plain file and a file that can't be opened are faults.
-/// - An old file is opened for reading and writing, and where that is denied for reading alone; a later
-///   write of it is then a fault. A new one gets the folders that it lies in.
+///   path through a plain file and a file that can't be opened are faults; a folder in the place of a file that is only
+///   read is one once its length is asked for.
+/// - An entry, a read-only database and the list are opened for reading alone. Another old file is opened for reading and
+///   writing, and where that is denied for reading alone; a later write of it is then a fault.
+/// - A new file gets the folders that it lies in. Both are for their user alone. No file is made over a link, and in the
+///   place of a temporary file what isn't plain, a link too, is removed first.
 /// - A lock is the system's own on the open file: it excludes every other opening of the file, and is free
 ///   once its slot is closed or its process ends.
-/// - A reading or writing that the system does in part or that a signal interrupts goes on until it is done.
+/// - A reading or writing that the system does in part or that a signal interrupts goes on until it is done. A writing
+///   that fails leaves no longer file than it found.
 /// - The clock's number is nanoseconds since 1970. A pause yields to others at first, and after some of them
-///   sleeps, at last 2 milliseconds.
+///   sleeps, at last 10 milliseconds.
 /// - The system's want of memory is `NoMemory`; each other refusal is `Failed`, and is counted. The first that is counted
 ///   is kept with its path and its reason, for whoever tells a person why: `first_fault`.
 #[derive(Drop)]
@@ -95,7 +99,7 @@ impl<R: RealFiles<File = File> + Clock + Drop> HostFiles<R> {
         ensures outside { (HasPath self.old.paths name.now → ⊥) → result ≡ Err (faults.Failed reasons.NoPath) }
     {
         let path = self.path(name)?;
-        match system::open_old(&self.rt, path.as_str())? {
+        match opening::open_old(&self.rt, name, path.as_str())? {
             Some(file) => {
                 self.seat.fill(slot, Opened { file, path });
                 Ok(Reply::Done)
@@ -112,7 +116,7 @@ impl<R: RealFiles<File = File> + Clock + Drop> HostFiles<R> {
         ensures outside { (HasPath self.old.paths name.now → ⊥) → result ≡ Err (faults.Failed reasons.NoPath) }
     {
         let path = self.path(name)?;
-        let file = system::open_new(&self.rt, path.as_str())?;
+        let file = opening::open_new(&self.rt, name, path.as_str())?;
         self.seat.fill(slot, Opened { file, path });
         Ok(Reply::Done)
     }

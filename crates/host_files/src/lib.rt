@@ -7,6 +7,7 @@ mod host_files;
 mod host_sink;
 mod host_source;
 mod opened;
+mod opening;
 mod reason;
 mod seat;
 mod system;

@@ -57,7 +57,6 @@ fn words_of(number: i32) -> Option<&'static str> {
         24 => Some("Too many open files"),
         27 => Some("File too large"),
         28 => Some("No space left on device"),
-        29 => Some("Illegal seek"),
         30 => Some("Read-only file system"),
         32 => Some("Broken pipe"),
         36 => Some("File name too long"),

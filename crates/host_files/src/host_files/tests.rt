@@ -5,7 +5,7 @@ mod calls;
 
 use crate::{FirstFault, HostFiles};
 use cache_types::{Bytes, Name, NoMemory, Text, TextList, Who};
-use calls::{KEY, cut, look_up, make, overwrite, pause_often, remove, rename, time};
+use calls::{KEY, cut, look_up, make, pause_often, remove, rename, time};
 use file_log::Reply;
 use files_api::Files;
 use path_names::Paths;
@@ -151,14 +151,6 @@ fn why_not_found(rt: HostRuntime, folder: &str, name: Name) -> Result<String, No
     line_of(rt.alloc(), files.first_fault())
 }
 
-/// The same after a byte was to be written into a name's file.
-fn why_not_written(rt: HostRuntime, name: Name) -> Result<String, NoMemory> {
-    let byte = Bytes::of(rt.alloc(), b"a")?;
-    let mut files = files_in(rt.alloc(), rt, "no_folder")?;
-    let _written = overwrite(&mut files, name, byte);
-    line_of(rt.alloc(), files.first_fault())
-}
-
 /// Whether a line is this one.
 fn is_line(line: Result<String, NoMemory>, want: &str) -> bool {
     match line {
@@ -167,13 +159,22 @@ fn is_line(line: Result<String, NoMemory>, want: &str) -> bool {
     }
 }
 
+/// A folder in an entry's place opens for reading, so that it is the slot whose length fails.
 #[test]
 fn first_failure_is_told(rt: HostRuntime) -> io::Result<()> {
     let folder = "first_failure_is_told";
     begin(rt, folder, "first_failure_is_told/index")?;
     fs::create_dir(&rt, "first_failure_is_told/mesa_cache.db")?;
+    fs::create_dir_all(
+        &rt,
+        "first_failure_is_told/07/07070707070707070707070707070707070707",
+    )?;
     let rows = [
         (Name::KeyIndex { root: 0 }, "none"),
+        (
+            Name::Entry { root: 0, key: KEY },
+            "first_failure_is_told/07/07070707070707070707070707070707070707: Is a directory",
+        ),
         (
             Name::Db { root: 0 },
             "first_failure_is_told/mesa_cache.db: Is a directory",
@@ -188,17 +189,6 @@ fn first_failure_is_told(rt: HostRuntime) -> io::Result<()> {
         assert!(rt; is_line(why_not_found(rt, folder, name), want), "{want}");
     }
     fs::remove_dir_all(&rt, folder)
-}
-
-/// The path of a slot is the one that it was opened by.
-#[test]
-fn path_of_a_slot_is_told(rt: HostRuntime) -> io::Result<()> {
-    if fs::metadata(&rt, LIST).is_err() {
-        return Ok(());
-    }
-    let want = "/sys/devices/system/cpu/online: Illegal seek";
-    assert!(rt; is_line(why_not_written(rt, Name::List), want));
-    Ok(())
 }
 
 #[test]
@@ -293,7 +283,7 @@ fn tells_the_time(rt: HostRuntime) -> io::Result<()> {
     Ok(())
 }
 
-/// Four pauses without a sleep, then 50, 100, 200, 400, 800, 1600, 2000 and 2000 microseconds.
+/// Four pauses without a sleep, then 50, 100, 200, 400, 800, 1600, 3200 and 6400 microseconds.
 #[test]
 fn waits_longer_and_longer(rt: HostRuntime) -> io::Result<()> {
     let start = rt.monotonic()?;
@@ -302,6 +292,6 @@ fn waits_longer_and_longer(rt: HostRuntime) -> io::Result<()> {
         Err(_) => false,
     };
     let waited = rt.monotonic()?.saturating_sub(start);
-    assert!(rt; paused && waited >= Duration::from_micros(7_150));
+    assert!(rt; paused && waited >= Duration::from_micros(12_750));
     Ok(())
 }

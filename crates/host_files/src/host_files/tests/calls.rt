@@ -63,24 +63,6 @@ pub fn make<F: Files>(files: &mut F, name: Name, at: u64, bytes: Bytes) -> Reply
     })
 }
 
-/// What a writer is answered that writes these bytes at the front of a name's file, which is there.
-pub fn overwrite<F: Files>(files: &mut F, name: Name, bytes: Bytes) -> Reply
-    requires { IsIdle (F.seen files.old) }
-{
-    let request = Request::PutKey { root: 0, key: KEY };
-    let Reply::Done = files.call(Call::Tell(Note::Begin(request))) else {
-        return Reply::Failed;
-    };
-    let Reply::Done = files.call(Call::OpenOld { slot: 5, name }) else {
-        return Reply::Failed;
-    };
-    files.call(Call::WriteAt {
-        slot: 5,
-        at: 0,
-        bytes,
-    })
-}
-
 /// What a renaming is answered.
 pub fn rename<F: Files>(files: &mut F, from: Name, to: Name) -> Reply
     requires { IsIdle (F.seen files.old) }
