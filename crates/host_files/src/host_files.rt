@@ -42,14 +42,14 @@ pub struct HostFiles<R: RealFiles<File = File> + Clock + Drop> {
 }
 
 impl<R: RealFiles<File = File> + Clock + Drop> HostFiles<R> {
-    ghost use Rattle.std.specs.Prelude.{◌≡◌, ◌+◌, ◌-◌, ◌^◌, min, option_copied, Ok, Err, IfOk, IfErr, IfSome, IsNone};
+    ghost use Rattle.std.specs.Prelude.{◌≡◌, ℕ, ◌+◌, ◌-◌, ◌^◌, min, option_copied, Ok, Err, IfOk, IfErr, IfSome, IsNone};
     ghost use Rattle.file_log.specs.declared.call.Call.TheVariants as calls;
     ghost use Rattle.file_log.specs.declared.reply.Reply.TheVariants as replies;
     ghost use Rattle.file_log.specs.Seat.{IsFilled, IsEmpty, IsIdle, SlotFits};
     ghost use Rattle.path_names.specs.Paths.{HasPath, HasRoot, path_spelled};
     ghost use Rattle.file_log.specs.Exchange.{MayFail};
     ghost use Rattle.host_files.specs.Calls.{HasPaths};
-    ghost use Rattle.host_files.specs.Paths.{IsPathOrNone, IsPathOfCall, IsFaultOfCall};
+    ghost use Rattle.host_files.specs.Paths.{IsPathOrNone, IsPathOfCall, IsFaultOfCall, paths_after};
     ghost use Rattle.host_files.specs.Slots.{filled_in, path_of_slot};
     ghost use Rattle.host_files.specs.Seats.{Acts, Went};
     ghost use Rattle.host_files.specs.declared.fault.Fault.TheVariants as faults;
@@ -94,7 +94,7 @@ impl<R: RealFiles<File = File> + Clock + Drop> HostFiles<R> {
     fn open_old(&mut self, slot: u8, name: &Name) -> Result<Reply, Fault>
         requires { IsEmpty (filled_in self.old.seat.slots) slot }
         ensures went { Went self.old.seat (calls.OpenOld slot name.now) result self.new.seat }
-        ensures opened { result ≡ Ok replies.Done → path_of_slot self.new.seat.slots slot ≡ path_spelled self.old.paths name.now }
+        ensures slots { IfOk result (λ reply. (at : ℕ) → path_of_slot self.new.seat.slots at ≡ paths_after self.old.paths (calls.OpenOld slot name.now) reply self.old.seat.slots at) }
         ensures rest { self.new ≡ record self.old { seat = self.new.seat } }
         ensures outside { (HasPath self.old.paths name.now → ⊥) → result ≡ Err (faults.Failed reasons.NoPath) }
     {
@@ -111,7 +111,7 @@ impl<R: RealFiles<File = File> + Clock + Drop> HostFiles<R> {
     fn open_new(&mut self, slot: u8, name: &Name) -> Result<Reply, Fault>
         requires { IsEmpty (filled_in self.old.seat.slots) slot }
         ensures went { Went self.old.seat (calls.OpenNew slot name.now) result self.new.seat }
-        ensures opened { result ≡ Ok replies.Done → path_of_slot self.new.seat.slots slot ≡ path_spelled self.old.paths name.now }
+        ensures slots { IfOk result (λ reply. (at : ℕ) → path_of_slot self.new.seat.slots at ≡ paths_after self.old.paths (calls.OpenNew slot name.now) reply self.old.seat.slots at) }
         ensures rest { self.new ≡ record self.old { seat = self.new.seat } }
         ensures outside { (HasPath self.old.paths name.now → ⊥) → result ≡ Err (faults.Failed reasons.NoPath) }
     {
@@ -213,6 +213,7 @@ impl<R: RealFiles<File = File> + Clock + Drop> HostFiles<R> {
 
     fn tell(&mut self, note: &Note)
         ensures acts { Acts self.old.seat (calls.Tell note.now) replies.Done self.new.seat }
+        ensures slots { self.new.seat.slots ≡ self.old.seat.slots }
         ensures rest { self.new ≡ record self.old { seat = self.new.seat; waits = 0 } }
     {
         self.waits = 0;
@@ -223,6 +224,7 @@ impl<R: RealFiles<File = File> + Clock + Drop> HostFiles<R> {
     fn tried(&mut self, c: &Call) -> Result<Reply, Fault>
         requires slots { SlotFits (filled_in self.old.seat.slots) c.now }
         ensures went { Went self.old.seat c.now result self.new.seat }
+        ensures slots { IfOk result (λ reply. (at : ℕ) → path_of_slot self.new.seat.slots at ≡ paths_after self.old.paths c.now reply self.old.seat.slots at) }
         ensures outside { (HasPaths self.old.paths c.now → ⊥) → result ≡ Err (faults.Failed reasons.NoPath) }
         ensures rest { self.new ≡ record self.old { seat = self.new.seat; waits = self.new.waits } }
     {
@@ -302,6 +304,7 @@ impl<R: RealFiles<File = File> + Clock + Drop> HostFiles<R> {
         ensures acts { Acts self.old.seat c.now result self.new.seat }
         ensures path { self.old.seat.faults ≡ 0 → IfSome self.new.seat.first (λ first. IsPathOfCall self.old.paths self.old.seat.slots c.now first.path) }
         ensures reason { self.old.seat.faults ≡ 0 → IfSome self.new.seat.first (λ first. first.reason ≡ reason) }
+        ensures slots { self.new.seat.slots ≡ self.old.seat.slots }
         ensures rest { self.new ≡ record self.old { seat = self.new.seat } }
     {
         if self.seat.has_failed() {
@@ -319,6 +322,7 @@ impl<R: RealFiles<File = File> + Clock + Drop> HostFiles<R> {
         ensures acts { Acts self.old.seat c.now result self.new.seat }
         ensures outside { (HasPaths self.old.paths c.now → ⊥) → result ≡ replies.Failed }
         ensures first { result ≡ replies.Failed → self.old.seat.faults ≡ 0 → IfSome self.new.seat.first (IsFaultOfCall self.old.paths self.old.seat.slots c.now) }
+        ensures slots { (at : ℕ) → path_of_slot self.new.seat.slots at ≡ paths_after self.old.paths c.now result self.old.seat.slots at }
         ensures paths { self.new.paths ≡ self.old.paths }
     {
         match self.tried(c) {
@@ -330,15 +334,16 @@ impl<R: RealFiles<File = File> + Clock + Drop> HostFiles<R> {
 }
 
 impl<R: RealFiles<File = File> + Clock + Drop> Files for HostFiles<R> {
-    ghost use Rattle.std.specs.Prelude.{◌≡◌, None, IfSome};
+    ghost use Rattle.std.specs.Prelude.{◌≡◌, ℕ, None, IfSome};
     ghost use Rattle.file_log.specs.declared.reply.Reply.TheVariants.{Failed};
     ghost use Rattle.file_log.specs.Exchange.{Answers};
     ghost use Rattle.file_log.specs.Seat.{MayCall, IsSeen, seen_after};
     ghost use Rattle.file_log.specs.Told.{Called, HasCause};
     ghost use Rattle.host_files.specs.Calls.{HasPaths};
     ghost use Rattle.host_files.specs.Faults.{count_after};
-    ghost use Rattle.host_files.specs.Paths.{IsFaultOfCall};
+    ghost use Rattle.host_files.specs.Paths.{IsFaultOfCall, paths_after};
     ghost use Rattle.host_files.specs.Seats.{KeepsFirst, seen_of};
+    ghost use Rattle.host_files.specs.Slots.{path_of_slot};
 
     ghost history = { λ _. None };
 
@@ -364,6 +369,7 @@ impl<R: RealFiles<File = File> + Clock + Drop> Files for HostFiles<R> {
         ensures outside { (HasPaths self.old.paths c → ⊥) → result ≡ Failed }
         ensures first { result ≡ Failed → self.old.seat.faults ≡ 0 → IfSome self.new.seat.first (IsFaultOfCall self.old.paths self.old.seat.slots c) }
         ensures kept { KeepsFirst self.old.seat result self.new.seat }
+        ensures slots { (at : ℕ) → path_of_slot self.new.seat.slots at ≡ paths_after self.old.paths c result self.old.seat.slots at }
         ensures paths { self.new.paths ≡ self.old.paths }
     {
         self.made(&c)

@@ -20,7 +20,7 @@ pub struct Seat {
 }
 
 impl Seat {
-    ghost use Rattle.std.specs.Prelude.{◌≡◌, ◌<◌, ◌↔◌, true, false, get_or, slice_set, option_copied, Some, None, IsTrue};
+    ghost use Rattle.std.specs.Prelude.{◌≡◌, ◌<◌, ◌↔◌, ℕ, nat_eq, true, false, [], get_or, slice_set, option_copied, Some, None, IsTrue, if◌then◌else◌};
     ghost use Rattle.cache_types.specs.declared.name.Name.{Name};
     ghost use Rattle.file_log.specs.declared.call.Call.{Call};
     ghost use Rattle.file_log.specs.declared.call.Call.TheVariants.{OpenOld, OpenNew, Close, Tell};
@@ -28,7 +28,7 @@ impl Seat {
     ghost use Rattle.file_log.specs.Exchange.{MayFail, MayLack};
     ghost use Rattle.file_log.specs.Seat.{IsIdle, IsFilled, IsEmpty};
     ghost use Rattle.host_files.specs.Faults.{risen};
-    ghost use Rattle.host_files.specs.Slots.{filled_in};
+    ghost use Rattle.host_files.specs.Slots.{filled_in, path_of_slot};
     ghost use Rattle.host_files.specs.Seats.{Acts, seen_of};
 
     /// A seat without open files, outside any operation.
@@ -64,6 +64,7 @@ impl Seat {
         ensures old { (name : Name) → Acts self.old (OpenOld slot name) Done self.new }
         ensures new { (name : Name) → Acts self.old (OpenNew slot name) Done self.new }
         ensures slots { self.new.slots ≡ slice_set self.old.slots slot (Some opened) }
+        ensures paths { (at : ℕ) → path_of_slot self.new.slots at ≡ (if nat_eq slot at then opened.path else path_of_slot self.old.slots at) }
     {
         self.slots[slot as usize] = Some(opened);
     }
@@ -73,6 +74,7 @@ impl Seat {
         requires { IsFilled (filled_in self.old.slots) slot }
         ensures closed { Acts self.old (Close slot) Done self.new }
         ensures slots { self.new.slots ≡ slice_set self.old.slots slot None }
+        ensures paths { (at : ℕ) → path_of_slot self.new.slots at ≡ (if nat_eq slot at then [] else path_of_slot self.old.slots at) }
     {
         self.slots[slot as usize] = None;
     }
