@@ -1,3 +1,4 @@
 pub mod Entries
+pub mod Firsts
 pub mod Sleeps
 pub mod Untold

@@ -1,8 +1,8 @@
 ghost use Rattle.std.specs.Prelude.{◌≡◌};
-ghost use Rattle.std.specs.IoError.{error_kind};
-ghost use Rattle.host_files.specs.Faults.{IsFaultOf};
+ghost use Rattle.host_files.specs.Faults.{IsFaultOf, reason_for};
 ghost use Rattle.host_files.specs.declared.fault.Fault.TheVariants.{NoMemory};
 
+use crate::reason::{OUT_OF_MEMORY, Reason};
 use cache_types::NoMemory;
 use std::alloc::{AllocError, AllocFailed};
 use std::io;
@@ -12,18 +12,30 @@ use std::io::ErrorKind;
 #[derive(Clone, Copy, Debug, PartialEq, Eq)]
 pub enum Fault {
     /// The system refused, or there is no such file for it.
-    Failed,
+    Failed(Reason),
     /// Memory ran out, here or in the system.
     NoMemory,
 }
 
+impl Fault {
+    /// Why the call wasn't done.
+    pub fn reason(self) -> Reason
+        ensures { result ≡ reason_for self }
+    {
+        match self {
+            Fault::Failed(reason) => reason,
+            Fault::NoMemory => Reason::System(OUT_OF_MEMORY),
+        }
+    }
+}
+
 impl From<io::Error> for Fault {
-    ghost from_gives = { λ e f. IsFaultOf (error_kind e) f };
+    ghost from_gives = { IsFaultOf };
 
     fn from(error: io::Error) -> Fault {
         match error.kind() {
             ErrorKind::OutOfMemory => Fault::NoMemory,
-            _ => Fault::Failed,
+            _ => Fault::Failed(Reason::of(&error)),
         }
     }
 }

@@ -5,6 +5,7 @@ ghost use Rattle.host_files.specs.Faults.{risen};
 ghost use Rattle.files_api.specs.declared.took.Took.TheVariants.{Failed};
 
 use crate::fault::Fault;
+use crate::reason::Reason;
 use crate::system::again_if_interrupted;
 use files_api::{Source, Took};
 use std::alloc::Global;
@@ -24,7 +25,7 @@ fn read_some<T: Read>(reader: &mut T, into: &mut [u8]) -> Result<usize, Fault>
             Err(error) => again_if_interrupted(error)?,
         }
     }
-    Err(Fault::Failed)
+    Err(Fault::Failed(Reason::Other))
 }
 
 /// Standard input. What is left isn't told, but where a reader tells it, no byte of it is passed over.

@@ -1,12 +1,11 @@
-ghost use Rattle.std.specs.Prelude.{◌≡◌, ◌↔◌, ◌⊎◌, ◌≤◌, ◌-◌, ◌^◌, ◌∷◌, [], length, min, true, false, Ok, Err, IsOk, IfOk, OnOk, IfErr, Some, IfSome, unwrap_or, IsTrue};
-ghost use Rattle.std.specs.Fs.{new_options, with_read, with_write, with_create};
+ghost use Rattle.std.specs.Prelude.{◌≡◌, ◌↔◌, ◌≤◌, ◌-◌, ◌^◌, ◌∷◌, [], length, min, true, false, Ok, Err, IsOk, IfOk, OnOk, IfErr, Some, IfSome, unwrap_or, IsTrue};
 ghost use Rattle.std.specs.IoError.{error_kind};
 ghost use Rattle.std.specs.List.{All};
 ghost use Rattle.std.specs.List.Sorted.{IsSorted};
 ghost use Rattle.std.specs.Path.{path_parent};
 ghost use Rattle.std.specs.Duration.{as_nanos};
 ghost use Rattle.std.specs.declared.io.Error.{Error as IoError};
-ghost use Rattle.std.specs.declared.io.ErrorKind.TheVariants.{NotFound, PermissionDenied, ReadOnlyFilesystem, Interrupted};
+ghost use Rattle.std.specs.declared.io.ErrorKind.TheVariants.{NotFound, Interrupted};
 ghost use Rattle.std.specs.declared.fs.locks.TryLockError.TheVariants.{WouldBlock, Error};
 ghost use Rattle.hex.specs.Hex.{encode_lower};
 ghost use Rattle.cache_types.specs.declared.key.Key.{Key};
@@ -16,10 +15,12 @@ ghost use Rattle.host_files.specs.Names.{IsEntry, StartsWith};
 ghost use Rattle.host_files.specs.Waits.{sleep_after};
 
 use crate::fault::Fault;
+use crate::opening::only_plain;
+use crate::reason::Reason;
 use cache_types::{Bytes, Key, KeyList, MAX_ITEM};
 use hex::FromHex;
 use std::alloc::Global;
-use std::fs::{DirEntry, File, OpenOptions, ReadDir, TryLockError};
+use std::fs::{DirEntry, File, ReadDir, TryLockError};
 use std::io::ErrorKind;
 use std::os::unix::fs::FileExt;
 use std::path::Path;
@@ -36,75 +37,17 @@ const YIELDS: u32 = 4;
 /// The first sleep in microseconds; each is twice the one before.
 const FIRST_SLEEP: u64 = 50;
 
-/// No sleep is longer: 2 milliseconds.
-const LONGEST_SLEEP: u64 = 2_000;
-
-/// How a file is opened for reading and writing, and made where it is to be and there is none.
-fn for_writing(create: bool) -> OpenOptions
-    ensures { result ≡ with_create (with_write (with_read new_options true) true) create }
-{
-    let mut options = OpenOptions::new();
-    options.read(true).write(true).create(create);
-    options
-}
-
-fn open<R: RealFiles<File = File>>(rt: &R, path: &str, create: bool) -> io::Result<File> {
-    for_writing(create).open(rt, path)
-}
+/// No sleep is longer: 10 milliseconds. So the pauses between 64 tries last half a second.
+const LONGEST_SLEEP: u64 = 10_000;
 
 /// What isn't found is no fault; another error is one.
-fn pass_missing(error: io::Error) -> Result<(), Fault>
+pub fn pass_missing(error: io::Error) -> Result<(), Fault>
     ensures missing { IsOk result ↔ (error_kind error ≡ NotFound) }
-    ensures fault { IfErr result (IsFaultOf (error_kind error)) }
+    ensures fault { IfErr result (IsFaultOf error) }
 {
     match error.kind() {
         ErrorKind::NotFound => Ok(()),
         _ => Err(Fault::from(error)),
-    }
-}
-
-/// Whether a file can't be opened for writing, though perhaps for reading.
-fn is_denied(kind: ErrorKind) -> bool
-    ensures { IsTrue result ↔ ((kind ≡ PermissionDenied) ⊎ (kind ≡ ReadOnlyFilesystem)) }
-{
-    match kind {
-        ErrorKind::PermissionDenied | ErrorKind::ReadOnlyFilesystem => true,
-        _ => false,
-    }
-}
-
-/// The file of a path, for reading and writing, or for reading alone where more is denied. Nothing else than
-/// a file that isn't found is `None`.
-pub fn open_old<R: RealFiles<File = File>>(rt: &R, path: &str) -> Result<Option<File>, Fault> {
-    match open(rt, path, false) {
-        Ok(file) => Ok(Some(file)),
-        Err(error) if is_denied(error.kind()) => open_denied(rt, path),
-        Err(error) => {
-            pass_missing(error)?;
-            Ok(None)
-        }
-    }
-}
-
-/// The same for reading alone. A folder could be opened so, and a pipe would wait for its writer: what isn't
-/// a plain file is a fault.
-fn open_denied<R: RealFiles<File = File>>(rt: &R, path: &str) -> Result<Option<File>, Fault> {
-    if !fs::metadata(rt, path)?.is_file() {
-        return Err(Fault::Failed);
-    }
-    Ok(Some(OpenOptions::new().read(true).open(rt, path)?))
-}
-
-/// The file of a path, or a new empty one. Folders are made only where the system finds that they aren't
-/// there, so that a file in an old folder takes one call.
-pub fn open_new<R: RealFiles<File = File>>(rt: &R, path: &str) -> Result<File, Fault> {
-    match open(rt, path, true) {
-        Ok(file) => Ok(file),
-        Err(error) => {
-            pass_missing(error)?;
-            fs::create_dir_all(rt, folder_of(path))?;
-            Ok(open(rt, path, true)?)
-        }
     }
 }
 
@@ -127,7 +70,7 @@ pub fn take_lock(file: &File) -> Result<bool, Fault> {
 fn is_taken(tried: Result<(), TryLockError>) -> Result<bool, Fault>
     ensures taken { IsOk tried ↔ (result ≡ Ok true) }
     ensures held { (tried ≡ Err WouldBlock) ↔ (result ≡ Ok false) }
-    ensures fault { (error : IoError) → tried ≡ Err (Error error) → IfErr result (IsFaultOf (error_kind error)) }
+    ensures fault { (error : IoError) → tried ≡ Err (Error error) → IfErr result (IsFaultOf error) }
 {
     match tried {
         Ok(()) => Ok(true),
@@ -136,9 +79,11 @@ fn is_taken(tried: Result<(), TryLockError>) -> Result<bool, Fault>
     }
 }
 
-/// A file's length in bytes.
+/// A file's length in bytes. What isn't a plain file is a fault: a folder opens too, for reading.
 pub fn length(file: &File) -> Result<u64, Fault> {
-    Ok(file.metadata()?.len())
+    let found = file.metadata()?;
+    only_plain(&found)?;
+    Ok(found.len())
 }
 
 /// The bytes of a file from a place on, so many or up to its end.
@@ -183,31 +128,44 @@ fn read_into(file: &File, into: &mut [u8], at: u64) -> Result<usize, Fault>
             Err(error) => again_if_interrupted(error)?,
         }
     }
-    Err(Fault::Failed)
+    Err(Fault::Failed(Reason::Other))
 }
 
-/// Writes all bytes, from a place on. No bytes take no call of the system.
+/// Writes all bytes, from a place on. Where that fails, the file has the length again that it had before, if the writing made
+/// it longer, so that a disk that was full isn't full of what failed. No bytes take no call of the system.
 pub fn write(file: &File, at: u64, bytes: &[u8]) -> Result<(), Fault>
     ensures { bytes.now ≡ [] → IsOk result }
 {
+    if bytes.is_empty() {
+        return Ok(());
+    }
+    let before = length(file)?;
+    let written = write_all(file, at, bytes);
+    if written.is_err() {
+        let _cut = cut(file, before);
+    }
+    written
+}
+
+fn write_all(file: &File, at: u64, bytes: &[u8]) -> Result<(), Fault> {
     let mut put = 0;
     for _ in 0..u64::MAX {
         if put >= bytes.len() {
             return Ok(());
         }
         match file.write_at(&bytes[put..], at.saturating_add(put as u64)) {
-            Ok(0) => return Err(Fault::Failed),
+            Ok(0) => return Err(Fault::Failed(Reason::NothingWritten)),
             Ok(n) => put += n,
             Err(error) => again_if_interrupted(error)?,
         }
     }
-    Err(Fault::Failed)
+    Err(Fault::Failed(Reason::Other))
 }
 
 /// A call that a signal interrupted is made again; another error is a fault.
 pub fn again_if_interrupted(error: io::Error) -> Result<(), Fault>
     ensures interrupted { IsOk result ↔ (error_kind error ≡ Interrupted) }
-    ensures fault { IfErr result (IsFaultOf (error_kind error)) }
+    ensures fault { IfErr result (IsFaultOf error) }
 {
     match error.kind() {
         ErrorKind::Interrupted => Ok(()),
@@ -388,7 +346,7 @@ fn sleep_of(waits: u32) -> Option<u64>
     if waits < YIELDS {
         return None;
     }
-    let sleep = FIRST_SLEEP << (waits - YIELDS).min(6);
+    let sleep = FIRST_SLEEP << (waits - YIELDS).min(8);
     Some(sleep.min(LONGEST_SLEEP))
 }
 

@@ -3,7 +3,7 @@ ghost use Rattle.file_log.specs.Seat.{IsIdle};
 
 mod calls;
 
-use crate::HostFiles;
+use crate::{FirstFault, HostFiles};
 use cache_types::{Bytes, Name, NoMemory, Text, TextList, Who};
 use calls::{KEY, cut, look_up, make, pause_often, remove, rename, time};
 use file_log::Reply;
@@ -133,6 +133,64 @@ fn reads_what_stands_there(rt: HostRuntime) -> io::Result<()> {
     fs::remove_dir_all(&rt, folder)
 }
 
+/// A failure as it is told to a person.
+fn line_of(alloc: Global, fault: Option<&FirstFault>) -> Result<String, NoMemory> {
+    match fault {
+        Some(fault) => {
+            let (path, reason) = (fault.path(), fault.reason());
+            Ok(format!(in alloc; "{path}: {reason}")?)
+        }
+        None => Ok(String::from_str(alloc, "none")?),
+    }
+}
+
+/// What is told of the first failure after a lookup under a folder.
+fn why_not_found(rt: HostRuntime, folder: &str, name: Name) -> Result<String, NoMemory> {
+    let mut files = files_in(rt.alloc(), rt, folder)?;
+    let _found = look_up(&mut files, name);
+    line_of(rt.alloc(), files.first_fault())
+}
+
+/// Whether a line is this one.
+fn is_line(line: Result<String, NoMemory>, want: &str) -> bool {
+    match line {
+        Ok(line) => line.as_str() == want,
+        Err(_) => false,
+    }
+}
+
+/// A folder in an entry's place opens for reading, so that it is the slot whose length fails.
+#[test]
+fn first_failure_is_told(rt: HostRuntime) -> io::Result<()> {
+    let folder = "first_failure_is_told";
+    begin(rt, folder, "first_failure_is_told/index")?;
+    fs::create_dir(&rt, "first_failure_is_told/mesa_cache.db")?;
+    fs::create_dir_all(
+        &rt,
+        "first_failure_is_told/07/07070707070707070707070707070707070707",
+    )?;
+    let rows = [
+        (Name::KeyIndex { root: 0 }, "none"),
+        (
+            Name::Entry { root: 0, key: KEY },
+            "first_failure_is_told/07/07070707070707070707070707070707070707: Is a directory",
+        ),
+        (
+            Name::Db { root: 0 },
+            "first_failure_is_told/mesa_cache.db: Is a directory",
+        ),
+        (
+            Name::KeyIndex { root: 1 },
+            "first_failure_is_told/index/index: Not a directory",
+        ),
+        (Name::KeyIndex { root: 2 }, ": No path has this name"),
+    ];
+    for (name, want) in rows {
+        assert!(rt; is_line(why_not_found(rt, folder, name), want), "{want}");
+    }
+    fs::remove_dir_all(&rt, folder)
+}
+
 #[test]
 fn reads_what_cannot_be_written(rt: HostRuntime) -> io::Result<()> {
     if fs::metadata(&rt, LIST).is_err() {
@@ -225,7 +283,7 @@ fn tells_the_time(rt: HostRuntime) -> io::Result<()> {
     Ok(())
 }
 
-/// Four pauses without a sleep, then 50, 100, 200, 400, 800, 1600, 2000 and 2000 microseconds.
+/// Four pauses without a sleep, then 50, 100, 200, 400, 800, 1600, 3200 and 6400 microseconds.
 #[test]
 fn waits_longer_and_longer(rt: HostRuntime) -> io::Result<()> {
     let start = rt.monotonic()?;
@@ -234,6 +292,6 @@ fn waits_longer_and_longer(rt: HostRuntime) -> io::Result<()> {
         Err(_) => false,
     };
     let waited = rt.monotonic()?.saturating_sub(start);
-    assert!(rt; paused && waited >= Duration::from_micros(7_150));
+    assert!(rt; paused && waited >= Duration::from_micros(12_750));
     Ok(())
 }

@@ -1,5 +1,6 @@
-use super::{cut, list, open_new, read, remove, rename, wait, write};
+use super::{cut, length, list, read, remove, rename, wait, write};
 use crate::fault::Fault;
+use crate::opening::open_lasting;
 use std::cell::Cell;
 use std::fs::{File, OpenOptions};
 use std::rt::{Clock, Files as RealFiles};
@@ -10,7 +11,7 @@ use std::{fs, io};
 fn word<T: Drop>(done: Result<T, Fault>) -> &'static str {
     match done {
         Ok(_) => "done",
-        Err(Fault::Failed) => "failed",
+        Err(Fault::Failed(_)) => "failed",
         Err(Fault::NoMemory) => "no memory",
     }
 }
@@ -42,7 +43,7 @@ fn word_of_read(rt: HostRuntime, path: &str) -> &'static str {
 /// What calls are answered that the system refuses, in a folder with a file.
 fn refused_calls(rt: HostRuntime, folder: &str, index: &str, below: &str) -> [&'static str; 7] {
     [
-        word(open_new(&rt, below)),
+        word(open_lasting(&rt, below)),
         word_of_write(&rt, index),
         word_of_cut(&rt, index),
         word_of_read(rt, index),
@@ -64,6 +65,28 @@ fn refused_calls_are_faults(rt: HostRuntime) -> io::Result<()> {
     assert_eq!(rt; refused_calls(rt, folder, index, below), ["failed"; 7]);
     assert_eq!(rt; fs::read(&rt, index)?.as_slice(), b"abc".as_slice());
     fs::remove_dir_all(&rt, folder)
+}
+
+/// The longest file that ext4 has, in bytes.
+const LONGEST: u64 = 17_592_186_040_320;
+
+/// How long a file is after bytes were to be written across the longest file's end; 0 where the file system has longer files.
+fn length_after_failure<R: RealFiles<File = File>>(rt: &R, path: &str) -> Option<u64> {
+    let file = open_lasting(rt, path).ok()?;
+    match write(&file, LONGEST - 3, b"uvwxyz") {
+        Ok(()) => Some(0),
+        Err(_) => length(&file).ok(),
+    }
+}
+
+/// A writing that ends in a fault after some of its bytes gives the file its length back.
+#[test]
+fn failed_writing_leaves_the_length(rt: HostRuntime) -> io::Result<()> {
+    let path = "failed_writing_leaves_the_length";
+    fs::write(&rt, path, "abc")?;
+    let left = length_after_failure(&rt, path);
+    assert!(rt; left == Some(3) || left == Some(0), "{left:?}");
+    fs::remove_file(&rt, path)
 }
 
 /// The second bytes of the keys that a listing gives, and how many it gives.
@@ -114,6 +137,20 @@ impl Clock for Slept {
     }
 }
 
+/// How long the pauses between 64 tries last in all, in microseconds.
+fn all_sleeps() -> u128 {
+    let clock = Slept(Cell::new(Duration::ZERO));
+    for waits in 0..63 {
+        wait(&clock, waits);
+    }
+    clock.0.get().as_micros()
+}
+
+#[test]
+fn tries_last_half_a_second(rt: HostRuntime) {
+    assert_eq!(rt; all_sleeps(), 522_750);
+}
+
 #[test]
 fn sleeps_longer_after_each_wait(rt: HostRuntime) {
     let cases = [
@@ -122,10 +159,14 @@ fn sleeps_longer_after_each_wait(rt: HostRuntime) {
         (4, 50),
         (5, 100),
         (6, 200),
+        (7, 400),
+        (8, 800),
         (9, 1_600),
-        (10, 2_000),
-        (11, 2_000),
-        (u32::MAX, 2_000),
+        (10, 3_200),
+        (11, 6_400),
+        (12, 10_000),
+        (13, 10_000),
+        (u32::MAX, 10_000),
     ];
     for (waits, micros) in cases {
         let clock = Slept(Cell::new(Duration::ZERO));
