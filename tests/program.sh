@@ -3,6 +3,6 @@
 # then words and variables, and then many processes on one store. Stops at the first case that is wrong.
 set -eu
 parts=$(cd "$(dirname "$0")/program" && pwd -P)
-for part in files words crowd; do
+for part in files reasons words crowd; do
     sh "$parts/$part.sh"
 done

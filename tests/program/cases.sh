@@ -1,6 +1,7 @@
 # Sourced by the scripts that try the built program: where it is, a fresh folder to work in, and what a case has to leave. A script
 # stops at its first case that is wrong, and says which.
 set -u
+unset DAWSETTEE_EXPLAIN
 
 top=$(cd "$(dirname "$0")/../.." && pwd -P) || exit 1
 program=$top/crates/dawsettee/out/dawsettee
@@ -62,6 +63,28 @@ skip() {
 # Runs the program with its output and what it says of a fault in the files out and err.
 try() {
     "$program" "$@" >out 2>err
+    status=$?
+}
+
+# Looks a key up as driver `d`, GPU `g` in the folder store at a root.
+get() {
+    "$program" get --id=d --gpu=g --layout=folder "--root=$1" "$2"
+}
+
+# Looks a key up with its output and what it says of a fault in the files out and err.
+look() {
+    get "$1" "$2" </dev/null >out 2>err
+    status=$?
+}
+
+# Puts standard input as driver `d`, GPU `g` into the folder store at a root, under a key.
+put() {
+    "$program" put --id=d --gpu=g --layout=folder "--root=$1" "$2"
+}
+
+# The same with its output and what it says of a fault in the files out and err.
+store() {
+    put "$1" "$2" >out 2>err
     status=$?
 }
 

@@ -2,28 +2,6 @@
 # Tries lookups and puts of the built program in a folder store, with files, inputs and outputs as they can be: their status and bytes.
 . "$(dirname "$0")/cases.sh"
 
-# Looks a key up as driver `d`, GPU `g` in the folder store at a root.
-get() {
-    "$program" get --id=d --gpu=g --layout=folder "--root=$1" "$2"
-}
-
-# Looks a key up with its output and what it says of a fault in the files out and err.
-look() {
-    get "$1" "$2" </dev/null >out 2>err
-    status=$?
-}
-
-# Puts standard input as driver `d`, GPU `g` into the folder store at a root, under a key.
-put() {
-    "$program" put --id=d --gpu=g --layout=folder "--root=$1" "$2"
-}
-
-# The same with its output and what it says of a fault in the files out and err.
-store() {
-    put "$1" "$2" >out 2>err
-    status=$?
-}
-
 # What a case has to leave. No case changes the entry of the first key.
 holds() {
     leaves "$@"
@@ -126,6 +104,29 @@ if mkfifo pipe 2>/dev/null; then
     holds "a reader that has gone" 6 "" "write fault"
 else
     skip "a reader that has gone" "no pipe can be made here"
+fi
+
+# While the program works, the numbers of closed streams are held, so that no file of the store gets one.
+if [ -e /proc/self/fd/0 ] && mkfifo source 2>/dev/null; then
+    : >err
+    (exec "$program" put --id=d --gpu=g --layout=folder --root=puts $k1 <source >&- 2>&-) &
+    putting=$!
+    exec 4>source
+    waits=0
+    until [ "$(readlink /proc/$putting/fd/1) $(readlink /proc/$putting/fd/2)" = "/dev/null /dev/null" ] || [ $waits -eq 50 ]; do
+        waits=$((waits + 1))
+        sleep 0.1
+    done
+    printf abc >&4
+    exec 4>&-
+    wait $putting
+    status=$?
+    holds "a put with a closed output that waits for its input" 6 "" ""
+    [ $waits -lt 50 ] || wrong "a put with a closed output that waits for its input: the numbers of closed streams are free"
+    abc_entry | cmp -s - "puts/$(entry_of $k1)" || wrong "a put with a closed output that waits for its input: the entry has other bytes"
+    rm -r puts
+else
+    skip "a put with a closed output that waits for its input" "there is no /proc, or no pipe can be made here"
 fi
 
 # Streams that a lookup doesn't need.
@@ -261,14 +262,35 @@ for signal in ignored taken; do
     fi
     case $signal in
     ignored) holds "a put that runs into a limit" 7 "" "files fault" ;;
-    taken) [ $status -gt 128 ] || wrong "a put that runs into a limit and its signal: status $status" ;;
+    taken)
+        [ $status -gt 128 ] || wrong "a put that runs into a limit and its signal: status $status"
+        [ -s "puts/$(entry_of $k1).tmp" ] || wrong "a put that was killed: there is no temporary file"
+        ;;
     esac
     cmp -s old "puts/$(entry_of $k1)" || wrong "a write that is cut short, its signal $signal: the old entry was changed"
     store puts $k1 <part
     holds "a put after a write that was cut short, its signal $signal" 0 "$stored" ""
     look puts $k1
     cmp -s part out || wrong "a lookup after a write that was cut short: other bytes came back"
+    [ ! -e "puts/$(entry_of $k1).tmp" ] || wrong "a put after a write that was cut short: its temporary file is left"
 done
 rm -r puts
+
+# What a killed put leaves goes by the line of README and man page, once it is old, and nothing else does.
+line=$(sed -n 's/^ *\(find cache .*\)/\1/p' "$top/README.md")
+[ -n "$line" ] && [ "$(sed -n 's/\\-/-/g; s/^find cache /&/p' "$top/share/dawsettee.1")" = "$line" ] || wrong "the line that removes temporary files isn't the same in README and man page"
+store cache $k1 <abc
+holds "a put beside temporary files" 0 "$stored" ""
+temp=cache/$(entry_of $k1).tmp
+cp part "$temp"
+sh -c "$line" </dev/null
+[ -e "$temp" ] || wrong "a temporary file that was written just now is removed"
+find cache -exec touch -t 202001010000 {} +
+find cache ! -path "$temp" | sort >before
+sh -c "$line" </dev/null
+find cache | sort >after
+cmp -s before after || wrong "the line that removes temporary files leaves them, or removes other files"
+cases=$((cases + 1))
+rm -r cache
 
 tell

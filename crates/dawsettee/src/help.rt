@@ -39,7 +39,11 @@ Variables:
                                  at most 8 names of read-only databases, with commas
                                  between; they aren't asked yet
   MESA_DISK_CACHE_READ_ONLY_FOZ_DBS_DYNAMIC_LIST
-                                 the path of a file that names more
+                                 the path of a file that names more; it isn't read yet
+  DAWSETTEE_EXPLAIN              where it is set and not empty, or standard error is a
+                                 terminal, one more line there says why: the path that
+                                 failed and the system's reason, the word that isn't
+                                 understood, or the option that would do
 
 Exit status, and what stands on standard error:
    0  (nothing)                           done
@@ -62,7 +66,7 @@ Examples:
   dawsettee put --id=d --gpu=g --layout=folder --root=store \\
       a9993e364706816aba3e25717850c26c9cd0d89d <shader.bin
   dawsettee get --id=d --gpu=g --layout=folder --root=store \\
-      a9993e364706816aba3e25717850c26c9cd0d89d >shader.bin
+      a9993e364706816aba3e25717850c26c9cd0d89d >shader.out
   HOME=/home/u dawsettee settings
 ";
 

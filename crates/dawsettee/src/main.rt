@@ -2,22 +2,27 @@
 //! standard error what is wrong, and exits with the status's code.
 #![tactic(auto)]
 
+mod failure;
 mod help;
 mod streams;
 mod variables;
+mod why;
 
-ghost use Rattle.std.specs.Prelude.{IfOk, map, string_bytes};
+ghost use Rattle.std.specs.Prelude.{◌≡◌, IfOk, drop, map, string_bytes};
+ghost use Rattle.std.specs.Process.{exit_status};
 ghost use Rattle.cache_main.specs.Keys.{HasBadKey};
 ghost use Rattle.cache_main.specs.Settings.{IsTurnedOff, IsUnbuilt};
 ghost use Rattle.cache_main.specs.Top.{EndsExactly};
 ghost use Rattle.cache_main.specs.Words.{asked, HasNoReading};
+ghost use Rattle.report_text.specs.Statuses.{code_of};
 ghost use Rattle.settings_read.specs.Variables.{texts_of};
 
+use crate::failure::Failure;
 use crate::help::{HELP, VERSION};
 use crate::variables::variables_of;
 use cache_main::{plan_of, run};
 use cache_types::{NoMemory, Who};
-use host_files::{HostFiles, HostSink, HostSource};
+use host_files::{HostFiles, HostSink, HostSource, Reason};
 use path_names::Paths;
 use report_text::{Status, fault_text};
 use std::env;
@@ -30,20 +35,45 @@ const ME: Who = Who {
     seat: 0,
 };
 
-/// The words of the command line after the program's name. Words that aren't UTF-8 have no reading.
-fn words_of(rt: &HostRuntime) -> Result<Vec<String>, Status> {
-    let args = match env::args(rt) {
-        Ok(args) => args,
-        Err(error) if error.kind() == ErrorKind::OutOfMemory => return Err(Status::NoMemory),
-        Err(_) => return Err(Status::Usage),
-    };
-    let mut words = Vec::new(rt.alloc());
-    for word in args.skip(1) {
-        if words.push(word).is_err() {
-            return Err(Status::NoMemory);
+/// How a run ended: its status, and of a fault the first failure, where there was memory to keep it.
+#[derive(Drop)]
+struct Ended {
+    status: Status,
+    failure: Option<Failure>,
+}
+
+impl Ended {
+    /// A run that ended in this status, of which no more is to be said.
+    fn plain(status: Status) -> Ended
+        ensures { result.status ≡ status }
+    {
+        Ended {
+            status,
+            failure: None,
         }
     }
-    Ok(words)
+}
+
+/// The arguments: the program's name and the words of the command line. Words that aren't UTF-8 have no reading.
+fn arguments(rt: &HostRuntime) -> Result<Vec<String>, Status> {
+    match env::args(rt) {
+        Ok(args) => match args.collect(rt.alloc()) {
+            Ok(all) => Ok(all),
+            Err(_) => Err(Status::NoMemory),
+        },
+        Err(error) if error.kind() == ErrorKind::OutOfMemory => Err(Status::NoMemory),
+        Err(_) => Err(Status::Usage),
+    }
+}
+
+/// The words of the command line: all arguments but the first, which is the program's name.
+fn words_of(args: &[String]) -> &[String]
+    ensures { result.now ≡ drop 1 args.now }
+{
+    match args {
+        [_name, words @ ..] => words,
+        [] => &[],
+    }
 }
 
 /// Does what the words ask for, over the real files under these paths.
@@ -52,24 +82,31 @@ fn serve(
     words: &[String],
     vars: &[(String, String)],
     paths: Paths,
-) -> Result<Status, NoMemory>
-    ensures usage { IfOk result (λ status. EndsExactly status Status.Usage (HasNoReading (asked (map string_bytes words.now)))) }
-    ensures off { IfOk result (λ status. EndsExactly status Status.Off (IsTurnedOff (asked (map string_bytes words.now)) (texts_of vars.now))) }
-    ensures not_built { IfOk result (λ status. EndsExactly status Status.NotBuilt (IsUnbuilt (asked (map string_bytes words.now)) (texts_of vars.now))) }
-    ensures bad_key { IfOk result (λ status. EndsExactly status Status.BadKey (HasBadKey (asked (map string_bytes words.now)) (texts_of vars.now))) }
+) -> Result<Ended, NoMemory>
+    ensures usage { IfOk result (λ ended. EndsExactly ended.status Status.Usage (HasNoReading (asked (map string_bytes words.now)))) }
+    ensures off { IfOk result (λ ended. EndsExactly ended.status Status.Off (IsTurnedOff (asked (map string_bytes words.now)) (texts_of vars.now))) }
+    ensures not_built { IfOk result (λ ended. EndsExactly ended.status Status.NotBuilt (IsUnbuilt (asked (map string_bytes words.now)) (texts_of vars.now))) }
+    ensures bad_key { IfOk result (λ ended. EndsExactly ended.status Status.BadKey (HasBadKey (asked (map string_bytes words.now)) (texts_of vars.now))) }
 {
     let alloc = rt.alloc();
     let mut files = HostFiles::new(alloc, rt.clone()?, ME, paths)?;
     let mut source = HostSource::new(alloc, rt.clone()?);
     let mut out = HostSink::new(rt.clone()?);
-    Ok(run(alloc, words, vars, &mut files, &mut source, &mut out))
+    let status = run(alloc, words, vars, &mut files, &mut source, &mut out);
+    let failure = Failure::of_run(alloc, status, &files, &source, &out);
+    Ok(Ended { status, failure })
 }
 
 /// Prints a text, for `--help` and `--version`.
-fn show(rt: &HostRuntime, text: &str) -> Status {
+fn show(rt: &HostRuntime, text: &str) -> Ended
+    ensures { result.status ≡ Status.Usage → ⊥ }
+{
     match rt.write_all(text.as_bytes()) {
-        Ok(()) => Status::Ok,
-        Err(_) => Status::WriteFault,
+        Ok(()) => Ended::plain(Status::Ok),
+        Err(error) => Ended {
+            status: Status::WriteFault,
+            failure: Some(Failure::of_output(&error)),
+        },
     }
 }
 
@@ -85,49 +122,80 @@ fn text_for(words: &[String]) -> Option<&'static str> {
     }
 }
 
-/// The status that the words of the command line lead to. Help and the version are shown before anything is
-/// opened.
-fn status_of(rt: &HostRuntime) -> Status {
-    let words = match words_of(rt) {
-        Ok(words) => words,
-        Err(status) => return status,
-    };
-    match text_for(&words) {
+/// What the words of the command line lead to. Help and the version are shown before anything is opened.
+fn end_of(rt: &HostRuntime, words: &[String]) -> Ended
+    ensures usage { result.status ≡ Status.Usage → HasNoReading (asked (map string_bytes words.now)) }
+{
+    match text_for(words) {
         Some(text) => show(rt, text),
-        None => status_of_command(rt, &words),
+        None => end_of_command(rt, words),
     }
 }
 
-/// The status that a command leads to, while the standard streams that are closed are held.
-fn status_of_command(rt: &HostRuntime, words: &[String]) -> Status {
-    let Ok(_held) = streams::hold(rt) else {
-        return Status::FilesFault;
-    };
+/// What a command leads to, while the standard streams that are closed are held.
+fn end_of_command(rt: &HostRuntime, words: &[String]) -> Ended
+    ensures usage { result.status ≡ Status.Usage → HasNoReading (asked (map string_bytes words.now)) }
+{
+    match streams::hold(rt) {
+        Ok(_held) => end_by_variables(rt, words),
+        Err(error) => Ended {
+            status: Status::FilesFault,
+            failure: Failure::of_path(rt.alloc(), streams::NULL, Reason::of(&error)),
+        },
+    }
+}
+
+/// What a command leads to by the variables of the environment.
+fn end_by_variables(rt: &HostRuntime, words: &[String]) -> Ended
+    ensures usage { result.status ≡ Status.Usage → HasNoReading (asked (map string_bytes words.now)) }
+{
     let Ok(vars) = variables_of(rt) else {
-        return Status::NoMemory;
+        return Ended::plain(Status::NoMemory);
     };
     let paths = match plan_of(rt.alloc(), words, &vars) {
         Ok(paths) => paths,
-        Err(status) => return status,
+        Err(status) => return Ended::plain(status),
     };
     match serve(rt, words, &vars, paths) {
-        Ok(status) => status,
-        Err(_) => Status::NoMemory,
+        Ok(ended) => ended,
+        Err(_) => Ended::plain(Status::NoMemory),
     }
 }
 
-/// Says what is wrong in one line on standard error.
-fn report(rt: &HostRuntime, status: &Status) {
-    if *status == Status::Ok {
+/// Says what is wrong in one line on standard error, and where it is wanted why, in another.
+fn report(rt: &HostRuntime, words: &[String], ended: &Ended) {
+    if ended.status == Status::Ok {
         return;
     }
-    if let Ok(text) = fault_text(rt.alloc(), status) {
+    if let Ok(text) = fault_text(rt.alloc(), &ended.status) {
         let _told = rt.eprintln(text.as_str());
     }
+    why::tell(rt, words, ended.status, ended.failure.as_ref());
+}
+
+/// Does what the arguments ask for, says what is wrong, and gives the status.
+fn status_of(rt: &HostRuntime, args: &[String]) -> Status
+    ensures usage { result ≡ Status.Usage → HasNoReading (asked (map string_bytes (drop 1 args.now))) }
+{
+    let words = words_of(args);
+    let ended = end_of(rt, words);
+    report(rt, words, &ended);
+    ended.status
+}
+
+/// The program's exit status: the status's code.
+fn exit_of(status: Status) -> ExitCode
+    ensures { exit_status result ≡ code_of status }
+{
+    ExitCode::from(status.code())
 }
 
 fn main(rt: HostRuntime) -> ExitCode {
-    let status = status_of(&rt);
-    report(&rt, &status);
-    ExitCode::from(status.code())
+    match arguments(&rt) {
+        Ok(args) => exit_of(status_of(&rt, &args)),
+        Err(status) => {
+            report(&rt, &[], &Ended::plain(status));
+            exit_of(status)
+        }
+    }
 }

@@ -3,7 +3,7 @@ use std::io;
 use std::os::fd::AsRawFd;
 
 /// The file that gives no bytes and takes all.
-const NULL: &str = "/dev/null";
+pub const NULL: &str = "/dev/null";
 
 /// Holds the numbers of standard streams that are closed, as long as the result lives.
 ///

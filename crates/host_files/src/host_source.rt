@@ -1,8 +1,5 @@
-ghost use Rattle.std.specs.Prelude.{◌≡◌, ◌≤◌, length, drop, IfOk, OnErr};
+ghost use Rattle.std.specs.Prelude.{◌≡◌, ◌≤◌, length, IfOk, is_none, nat_eq};
 ghost use Rattle.std.specs.Io.KnownBytes.{ReadConsumes};
-ghost use Rattle.files_api.specs.Streams.{HasFault};
-ghost use Rattle.host_files.specs.Faults.{risen};
-ghost use Rattle.files_api.specs.declared.took.Took.TheVariants.{Failed};
 
 use crate::fault::Fault;
 use crate::reason::Reason;
@@ -40,9 +37,19 @@ pub struct HostSource<R: Input + Drop> {
     /// given, and a [`Source`] changes no more of a slice than it reads.
     piece: Vec<u8>,
     faults: u64,
+    /// Why the first reading that failed did.
+    first: Option<Reason>,
+    ghost first_told: { is_none first ≡ nat_eq faults 0 },
 }
 
 impl<R: Input + Drop> HostSource<R> {
+    ghost use Rattle.std.specs.Prelude.{◌≡◌, ◌≤◌, ◌↔◌, length, drop, None, Some, IfOk, OnErr};
+    ghost use Rattle.std.specs.Option.{option_or};
+    ghost use Rattle.std.specs.Io.KnownBytes.{ReadConsumes};
+    ghost use Rattle.files_api.specs.Streams.{HasFault};
+    ghost use Rattle.files_api.specs.declared.took.Took.TheVariants.{Failed};
+    ghost use Rattle.host_files.specs.Faults.{risen, reason_for};
+
     /// The standard input of a program. Nothing is read, and no memory taken, before the first reading.
     pub fn new(alloc: Global, rt: R) -> HostSource<R>
         ensures { ⟦<HostSource<R> as Source>⟧.faults result ≡ 0 }
@@ -52,7 +59,15 @@ impl<R: Input + Drop> HostSource<R> {
             reader: rt.reader(),
             piece: Vec::new(alloc),
             faults: 0,
+            first: None,
         }
+    }
+
+    /// Why the first reading that failed did: none exactly while none failed.
+    pub fn first_reason(&self) -> Option<Reason>
+        ensures { (result ≡ None) ↔ (⟦<HostSource<R> as Source>⟧.faults self.now ≡ 0) }
+    {
+        self.first
     }
 
     /// Copies the next bytes, as many as come at once.
@@ -61,6 +76,7 @@ impl<R: Input + Drop> HostSource<R> {
         ensures rest { IfOk result (λ n. drop n into.new ≡ drop n into.old) }
         ensures failed { OnErr result (into.new ≡ into.old) }
         ensures faults { self.new.faults ≡ self.old.faults }
+        ensures first { self.new.first ≡ self.old.first }
         ensures bytes { ReadConsumes (⟦<R::Reader as Read>⟧.remaining self.old.reader) (⟦<R::Reader as Read>⟧.remaining self.new.reader) result into.new }
     {
         if self.piece.is_empty() {
@@ -73,18 +89,24 @@ impl<R: Input + Drop> HostSource<R> {
         Ok(n)
     }
 
-    fn fail(&mut self) -> Took
+    /// A reading failed: it is counted, and the first is kept.
+    fn fail(&mut self, fault: Fault) -> Took
         ensures failed { result ≡ Failed }
         ensures cause { HasFault self.old.faults self.new.faults result }
-        ensures faults { self.new ≡ record self.old { faults = risen self.old.faults } }
+        ensures faults { self.new.faults ≡ risen self.old.faults }
+        ensures first { self.new.first ≡ option_or self.old.first (Some (reason_for fault)) }
+        ensures reader { self.new.reader ≡ self.old.reader }
     {
+        if self.first.is_none() {
+            self.first = Some(fault.reason());
+        }
         self.faults = self.faults.saturating_add(1);
         Took::Failed
     }
 }
 
 impl<R: Input + Drop> Source for HostSource<R> {
-    ghost use Rattle.std.specs.Prelude.{◌≡◌, None};
+    ghost use Rattle.std.specs.Prelude.{◌≡◌, None, IsSome};
     ghost use Rattle.files_api.specs.Streams.{HasFault, IsRead};
     ghost use Rattle.host_files.specs.Faults.{count_taken};
     ghost use Rattle.host_files.specs.Streams.{TakesNext};
@@ -99,6 +121,7 @@ impl<R: Input + Drop> Source for HostSource<R> {
         ensures cause { HasFault self.old.faults self.new.faults result }
 
         ensures count { self.new.faults ≡ count_taken result self.old.faults }
+        ensures first { IsSome self.old.first → self.new.first ≡ self.old.first }
         ensures next { TakesNext result (⟦<R::Reader as Read>⟧.remaining self.old.reader) (⟦<R::Reader as Read>⟧.remaining self.new.reader) into.new }
     {
         if into.is_empty() {
@@ -106,7 +129,7 @@ impl<R: Input + Drop> Source for HostSource<R> {
         }
         match self.copy_to(into) {
             Ok(n) => Took::Some(n as u64),
-            Err(_) => self.fail(),
+            Err(fault) => self.fail(fault),
         }
     }
 }
