@@ -1,0 +1,5 @@
+pub mod HoldsLaws
+pub mod PlacesLaws
+pub mod RowLaws
+pub mod TruthLaws
+pub mod UsableLaws
