@@ -1,4 +1,5 @@
 pub mod HoldsLaws
+pub mod OrderLaws
 pub mod PlacesLaws
 pub mod RowLaws
 pub mod TruthLaws

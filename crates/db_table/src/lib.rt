@@ -2,5 +2,7 @@
 #![tactic(auto)]
 
 mod table;
+mod usable;
 
 pub use table::Table;
+pub use usable::{agreed_head, entries_end, row_count};
