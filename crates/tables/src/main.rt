@@ -3,11 +3,14 @@
 #![tactic(auto)]
 
 mod damage;
+mod databases;
 mod drivers;
 mod expect;
+mod indexes;
 mod items;
 mod keys;
 mod names;
+mod remembered;
 mod reports;
 mod sums;
 mod table;

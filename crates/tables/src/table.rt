@@ -1,4 +1,6 @@
-use crate::{drivers, items, keys, names, reports, sums, variables, words};
+use crate::{
+    databases, drivers, indexes, items, keys, names, remembered, reports, sums, variables, words,
+};
 use row_text::{Round, Sentence, Stage, Wrong};
 use std::alloc::Global;
 
@@ -51,6 +53,21 @@ fn other(alloc: Global, verb: &str, row: &mut Sentence) -> Result<(), Wrong> {
         "variable" => variables::variable(row),
         "variables" => variables::variables(row),
         "settings" => variables::printed(row),
+        verb => of_database(alloc, verb, row),
+    }
+}
+
+/// The rows on databases.
+fn of_database(alloc: Global, verb: &str, row: &mut Sentence) -> Result<(), Wrong> {
+    match verb {
+        "head" => databases::head(row),
+        "entry" => databases::entry(row),
+        "row" => databases::index_row(row),
+        "hash" => databases::hash(row),
+        "index" => indexes::index(row),
+        "main" => indexes::main(row),
+        "entries" => indexes::entries(row),
+        "remembered" => remembered::remembered(row),
         _ => Err(Wrong::Found(format!(in alloc; "no row begins with '{verb}'")?)),
     }
 }

@@ -1,0 +1,8 @@
+use Rattle.std.proofs.Common.{sym, ◌∙◌, arith}
+use Rattle.db_format.proofs.EntryLaws.{entry_exact}
+use Rattle.db_format.proofs.entry.read_entry.Goals as goal
+
+pub returns-clause-read : goal.returns-clause-read
+returns-clause-read c = λ head.
+    let exact = entry_exact c.args.bytes.now head (λ i. omega (arith, c.type_inv.bytes i)) in
+    (λ e. exact.0 (sym c.entry_in_front.ensures ∙ e), λ r. c.entry_in_front.ensures ∙ exact.1 r)

@@ -1,0 +1,4 @@
+pub mod Entries
+pub mod Heads
+pub mod Numbers
+pub mod Rows
