@@ -11,7 +11,6 @@ use Rattle.file_log.specs.declared.item.LogItem.TheVariants as items
 use Rattle.file_log.specs.declared.reply.Reply.{Reply}
 use Rattle.file_log.specs.declared.reply.Reply.TheVariants as replies
 use Rattle.file_log.specs.Exchange.{Answers, Makes, Exchange}
-use Rattle.files_api.specs.declared.machine.Step.{Step}
 use Rattle.files_api.specs.declared.machine.Step.TheVariants.{Ask, Done}
 use Rattle.files_api.specs.Drive.{Runs, SomeFailed}
 use Rattle.machine_parts.specs.declared.judged.Judged.{Judged}

@@ -14,7 +14,6 @@ use Rattle.file_log.specs.declared.reply.Reply.{Reply}
 use Rattle.file_log.specs.declared.reply.Reply.TheVariants as replies
 use Rattle.file_log.specs.Exchange.{Answers, Makes}
 use Rattle.file_log.specs.Log.{is_own, is_stop}
-use Rattle.files_api.specs.declared.machine.Step.{Step}
 use Rattle.files_api.specs.declared.machine.Step.TheVariants.{Ask, Done}
 use Rattle.files_api.proofs.Weave.{Inductive}
 use Rattle.machine_parts.specs.declared.judged.Judged.{Judged}
@@ -29,7 +28,7 @@ use Rattle.machine_parts.specs.declared.whole.Whole.TheVariants.{Going, Closing,
 use Rattle.machine_parts.specs.Ending.{close_at, closing_at, whole_asks, whole_asked, whole_of, GoingFed, WholeFed}
 use Rattle.machine_parts.specs.Judging.{judged_asks, judged_asked, JudgedTo, JudgedFed}
 use Rattle.machine_parts.specs.Parts.{IsGood}
-use Rattle.machine_parts.specs.Reading.{asks_in, measured, next_in, reading_asks, reading_next}
+use Rattle.machine_parts.specs.Reading.{asks_in, measured, reading_asks, reading_next}
 use Rattle.machine_parts.specs.Slots.{lowest, closed}
 use Rattle.machine_parts.proofs.Looking.{IsLooking, item_for, makes_one}
 
@@ -275,7 +274,7 @@ module _ {S : Type 0} (me : Who) (step : S → LogItem → S) (IsLegal Rule : S 
     abbrev pub ReadInv : Reading L → S → Type 0
     ReadInv m s = (m.file ≡ file) × StageInv m.stage s
 
-    abbrev ReadFed : Reading L → Reply → After (Reading L) (Option (List ℕ)) → Type 0
+    abbrev pub ReadFed : Reading L → Reply → After (Reading L) (Option (List ℕ)) → Type 0
     ReadFed m reply r = r ≡ reading_next longest m reply
 
     abbrev ReadThen : Reading L → Reply → S → Type 0

@@ -1,9 +1,8 @@
 -- A whole machine asks what its slots allow, and a reply moves them.
-use Rattle.std.specs.Prelude.{◌≡◌, ◌<◌, ◌≤◌, ◌+◌, ℕ, Bool, true, false, nat_eq, cond}
+use Rattle.std.specs.Prelude.{◌≡◌, ◌<◌, ℕ, Bool, true, false, nat_eq, cond}
 use Rattle.std.proofs.Common.{refl, sym, ap, ◌∙◌, subst, arith}
 use Rattle.std.proofs.lemmas.Bool.{false≢true, eqb-true}
 use Rattle.cache_types.specs.declared.answer.Answer.{Answer}
-use Rattle.cache_types.specs.declared.answer.Answer.TheVariants as answers
 use Rattle.file_log.specs.declared.call.Call.{Call}
 use Rattle.file_log.specs.declared.call.Call.TheVariants as calls
 use Rattle.file_log.specs.declared.note.Note.TheVariants as notes
@@ -12,7 +11,7 @@ use Rattle.file_log.specs.declared.reply.Reply.TheVariants as replies
 use Rattle.file_log.specs.Exchange.{Answers}
 use Rattle.file_log.specs.Seat.{seen_after, IsCalm}
 use Rattle.files_api.specs.declared.machine.Step.{Step}
-use Rattle.files_api.specs.declared.machine.Step.TheVariants.{Ask, Done}
+use Rattle.files_api.specs.declared.machine.Step.TheVariants.{Ask}
 use Rattle.files_api.specs.Drive.{Allows, Goes, Moves, seen_in}
 use Rattle.machine_parts.specs.declared.open.Open.{Open}
 use Rattle.machine_parts.specs.declared.part.After.{After}
@@ -20,7 +19,7 @@ use Rattle.machine_parts.specs.declared.part.After.TheVariants.{More, Over}
 use Rattle.machine_parts.specs.declared.whole.Whole.{Whole}
 use Rattle.machine_parts.specs.declared.whole.Whole.TheVariants.{Going, Closing, Spent}
 use Rattle.machine_parts.specs.Slots.{open_of, row, has, lowest, count}
-use Rattle.machine_parts.specs.Parts.{FitsCall, IsGood, Bears, Moved, Leads, Follows}
+use Rattle.machine_parts.specs.Parts.{FitsCall, IsGood, Bears, Leads, Follows}
 use Rattle.machine_parts.specs.Ending.{close_at, closing_at, whole_right, whole_asks, whole_asked, whole_of, GoingFed, WholeFed, whole_slots, whole_hurt, whole_left}
 
 -- ---- slots

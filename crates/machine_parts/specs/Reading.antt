@@ -1,5 +1,5 @@
 -- A whole file is read.
-use Rattle.std.specs.Prelude.{◌≡◌, ℕ, ◌+◌, Bool, true, false, List, Option, Some, None, nat_lt, if◌then◌else◌}
+use Rattle.std.specs.Prelude.{◌≡◌, ℕ, ◌+◌, true, false, List, Option, Some, None, nat_lt, if◌then◌else◌}
 use Rattle.cache_types.specs.declared.name.Name.{Name}
 use Rattle.file_log.specs.declared.call.Call.{Call}
 use Rattle.file_log.specs.declared.call.Call.TheVariants.{OpenOld, Length, ReadAt, Close}

@@ -9,13 +9,12 @@ use Rattle.file_log.specs.declared.reply.Reply.TheVariants as replies
 use Rattle.file_log.specs.Exchange.{Answers}
 use Rattle.machine_parts.specs.declared.open.Open.{Open}
 use Rattle.machine_parts.specs.declared.part.After.{After}
-use Rattle.machine_parts.specs.declared.part.After.TheVariants.{More, Over}
 use Rattle.machine_parts.specs.declared.reading.Read.{Read}
 use Rattle.machine_parts.specs.declared.reading.Read.TheVariants.{Opening, Measuring, Taking, Closing}
 use Rattle.machine_parts.specs.declared.reading.Reading.{Reading}
 use Rattle.machine_parts.specs.EndingLaws.{by_slot}
-use Rattle.machine_parts.specs.Parts.{FitsCall, Bears, Leads, Follows, Moved}
-use Rattle.machine_parts.specs.Reading.{asks_in, slots_in, left_in, measured, next_in, reading_right, reading_asks, reading_next, reading_slots, reading_left}
+use Rattle.machine_parts.specs.Parts.{FitsCall, Bears, Follows, Moved}
+use Rattle.machine_parts.specs.Reading.{asks_in, slots_in, left_in, next_in, reading_right, reading_asks, reading_next, reading_slots, reading_left}
 use Rattle.machine_parts.specs.Slots.{row, has, one, count, opened}
 
 -- ---- a slot of four

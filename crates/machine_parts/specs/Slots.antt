@@ -1,5 +1,5 @@
 -- Which of four slots are open, in what order they are closed.
-use Rattle.std.specs.Prelude.{◌≡◌, ℕ, ◌+◌, Bool, true, false, nat_eq, cond, Option, Some, None}
+use Rattle.std.specs.Prelude.{ℕ, ◌+◌, Bool, true, false, nat_eq, cond, Option, Some, None}
 use Rattle.machine_parts.specs.declared.open.Open.{Open}
 
 abbrev pub open_of : Bool → Bool → Bool → Bool → Open
