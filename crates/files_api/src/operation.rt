@@ -14,6 +14,7 @@ use std::alloc::Global;
 
 /// Makes the calls that a machine wants, within an open operation, and gives its answer.
 pub fn drive<M: Machine, F: Files>(machine: &mut M, files: &mut F) -> Answer
+    requires right { M.right machine.old }
     requires slots { (at : ℕ) → (F.seen files.old).filled at ≡ M.slots machine.old at }
     requires inside { (F.seen files.old).inside ≡ true }
     requires calm { (F.seen files.old).hurt ≡ true → M.hurt machine.old ≡ true }
@@ -93,6 +94,7 @@ pub fn operate<M: Machine + Drop, F: Files, B: FnOnce() -> Result<M, NoMemory>>(
 ) -> Answer
     requires idle { IsIdle (F.seen files.old) }
     requires callable { B.IsAlwaysCallable make }
+    requires right { (m : M) → B.post make (Ok m) → M.right m }
     requires fresh { (m : M) → B.post make (Ok m) → IsFresh (M.slots m) (M.hurt m) }
     ensures ended { Refused (F.me files.old) (F.history files.old) (F.history files.new) result
         ⊎ (Unmade (F.me files.old) request (F.history files.old) (F.history files.new) result

@@ -10,11 +10,8 @@ use Rattle.cache_types.specs.declared.request.Request.TheVariants as requests
 use Rattle.cache_types.specs.declared.request.RoPlan.{RoPlan}
 use Rattle.cache_types.specs.declared.seat.Who.{Who}
 use Rattle.cache_types.specs.declared.store.Store.{Store}
-use Rattle.file_log.specs.declared.call.Call.{Call}
 use Rattle.file_log.specs.declared.item.LogItem.{LogItem}
 use Rattle.file_log.specs.declared.item.LogItem.TheVariants as items
-use Rattle.file_log.specs.declared.reply.Reply.{Reply}
-use Rattle.file_log.specs.declared.reply.Reply.TheVariants as replies
 use Rattle.file_log.specs.Along.{All, Keeps}
 use Rattle.file_log.specs.Exchange.{Exchange}
 use Rattle.file_log.specs.Legal.{Legal}
@@ -24,15 +21,14 @@ use Rattle.file_log.specs.State.{state_of, disk_of}
 use Rattle.file_log.proofs.All.{seat_self}
 use Rattle.files_api.specs.Drive.{Runs, items_of_all, IsEndOf}
 use Rattle.seat_rules.specs.Changes.{with_item}
-use Rattle.seat_rules.specs.Address.{address}
 use Rattle.layout_rules.specs.Parts.{IsHeld}
+use Rattle.seat_rules.specs.Address.{address}
+use Rattle.seat_rules.specs.Operations.{is_bound}
 use Rattle.layout_rules.specs.Rules.{KeepsRules}
 use Rattle.folder_rules.specs.Whole.{folder_of}
 use Rattle.seat_rules.proofs.Histories.{goes_by}
-use Rattle.folder_store.specs.declared.get.FolderGet.{FolderGet}
 use Rattle.folder_store.specs.Keeping.{HasKept, KeepsRulesAmong, OthersKeepRules, WasLacking, AsksGet}
-use Rattle.folder_store.specs.Phases.{IsNew, asks, asked, Fed}
-use Rattle.folder_store.proofs.Calls.{item_for}
+use Rattle.folder_store.specs.Gets.{FolderGet, IsNew, get_asks, get_asked, GetFed}
 use Rattle.folder_store.proofs.GetAlong as along
 use Rattle.folder_store.proofs.GetKnown.{asked_for, Told}
 use Rattle.folder_store.proofs.Keeping.{order_of, IsOut}
@@ -54,16 +50,9 @@ module _ (me : Who) (root : ℕ) (driver : DriverKeys) (key : Key) (ro : RoPlan)
   Says h (items.End who answers.Miss) = is_own me (items.End who answers.Miss) ≡ true → Lacks h
   Says h x = Unit {0}
 
-  says_call : (h : History) (call : Call) (reply : Reply) → Says h (item_for me call reply)
-  says_call h call replies.Failed = tt
-  says_call h call replies.NoMemory = tt
-  says_call h call reply = tt
-
-  says_during : (m : FolderGet) (call : Call) (reply : Reply) (x : LogItem) (made : List LogItem) (h : History) → along.During me root driver key ro fits m call reply (x ∷ made) h → Says h x
-  says_during m call reply x made h d =
-      let is : x ∷ made ≡ item_for me call reply ∷ [] = d.2.4 in
-      let same : item_for me call reply ≡ x = cc in
-      subst (Says h) same (says_call h call reply)
+  says_inner : (h : History) (x : LogItem) → is_bound x ≡ false → Says h x
+  says_inner h (items.End who answer) inner = absurd (false≢true (sym inner))
+  says_inner h x inner = tt
 
   says_end : (h : History) (answer : Answer) → Told me root driver key ro answer h → Says h (items.End me answer)
   says_end h answers.Miss told = λ own'. told
@@ -80,22 +69,22 @@ module _ (me : Who) (root : ℕ) (driver : DriverKeys) (key : Key) (ro : RoPlan)
   says first answer new = record {
     begins = λ h. tt;
     starts = λ h i. along.starts me root driver key ro fits first h new i;
-    calls = λ m call reply x made h d legal. says_during m call reply x made h d;
-    is_in = λ m h b. b.1;
+    calls = λ m call reply x made h d legal. says_inner h x d.1.0;
+    is_in = λ m h b. b.0;
     ends = λ m given h b e is. (along.ends me root driver key ro fits m given answer h b e is, says_end h answer (along.tells me root driver key ro fits m given answer h b e is));
   }
 
   -- A lookup of a seat in no operation is not the first to break a rule, or to say what it hasn't seen.
-  weaves : (first last : FolderGet) (xs : List Exchange) (given answer : Answer) (h : History) (news : List LogItem) → IsNew root driver key first → Runs asks asked Fed me first xs given last → IsEndOf given answer
+  weaves : (first last : FolderGet) (xs : List Exchange) (given answer : Answer) (h : History) (news : List LogItem) → IsNew root driver key first → Runs get_asks get_asked GetFed me first xs given last → IsEndOf given answer
       → own me news ≡ items.Begin me this_lookup ∷ (items_of_all xs ++ items.End me answer ∷ []) → Legal (state_of h) news → NoStop me.process news → IsOut me h → Keeps with_item (Stronger Says) me h news
   weaves first last xs given answer h news new runs is e legal goes_on out =
       keeps_stronger (along.inductive me root driver key ro fits) Says first this_lookup answer (says first answer new) last xs given h news runs is e legal goes_on out
 
-  pub keeps_asked : (first last : FolderGet) (xs : List Exchange) (given answer : Answer) (h : History) (news : List LogItem) → IsNew root driver key first → Runs asks asked Fed me first xs given last → IsEndOf given answer
+  pub keeps_asked : (first last : FolderGet) (xs : List Exchange) (given answer : Answer) (h : History) (news : List LogItem) → IsNew root driver key first → Runs get_asks get_asked GetFed me first xs given last → IsEndOf given answer
       → own me news ≡ items.Begin me this_lookup ∷ (items_of_all xs ++ items.End me answer ∷ []) → Legal (state_of h) news → NoStop me.process news → IsOut me h → Keeps with_item KeepsRules me h news
   keeps_asked first last xs given answer h news new runs is e legal goes_on out = keeps_rules me Says says_other h news (weaves first last xs given answer h news new runs is e legal goes_on out)
 
-  pub misses_asked : (first last : FolderGet) (xs : List Exchange) (given : Answer) (h : History) (news : List LogItem) → IsNew root driver key first → Runs asks asked Fed me first xs given last → IsEndOf given answers.Miss
+  pub misses_asked : (first last : FolderGet) (xs : List Exchange) (given : Answer) (h : History) (news : List LogItem) → IsNew root driver key first → Runs get_asks get_asked GetFed me first xs given last → IsEndOf given answers.Miss
       → own me news ≡ items.Begin me this_lookup ∷ (items_of_all xs ++ items.End me answers.Miss ∷ []) → Legal (state_of h) news → NoStop me.process news → IsOut me h → OthersKeepRules me h news → WasLacking me root driver key h news
   misses_asked first last xs given h news new runs is e legal goes_on out others =
       let seen = all_more me Says says_other h news (weaves first last xs given answers.Miss h news new runs is e legal goes_on out) others in
@@ -115,7 +104,7 @@ asked_so (requests.Get store driver' key' ro) root driver key asks = (
 asked_so request root driver key asks = absurd asks
 
 pub lookup_keeps : (me : Who) (request : Request) (root : ℕ) (driver : DriverKeys) (key : Key) (first last : FolderGet) (xs : List Exchange) (given answer : Answer) (h : History) (news : List LogItem) → IsDriver driver → IsNew root driver key first
-    → Runs asks asked Fed me first xs given last → IsEndOf given answer → own me news ≡ items.Begin me request ∷ (items_of_all xs ++ items.End me answer ∷ []) → Legal (state_of h) news → NoStop me.process news → (course_of me h.log).inside ≡ false
+    → Runs get_asks get_asked GetFed me first xs given last → IsEndOf given answer → own me news ≡ items.Begin me request ∷ (items_of_all xs ++ items.End me answer ∷ []) → Legal (state_of h) news → NoStop me.process news → (course_of me h.log).inside ≡ false
     → AsksGet request root driver key → KeepsRulesAmong me h news
 lookup_keeps me request root driver key first last xs given answer h news fits new runs is e legal goes_on idle asks kept =
     let r = asked_so request root driver key asks in
@@ -123,7 +112,7 @@ lookup_keeps me request root driver key first last xs given answer h news fits n
     keeps_asked me root driver key r.0 fits first last xs given answer h news new runs is e' legal goes_on (record { order = order_of h kept; idle = idle })
 
 pub lookup_misses : (me : Who) (request : Request) (root : ℕ) (driver : DriverKeys) (key : Key) (first last : FolderGet) (xs : List Exchange) (given answer : Answer) (h : History) (news : List LogItem) → IsDriver driver → IsNew root driver key first
-    → Runs asks asked Fed me first xs given last → IsEndOf given answer → own me news ≡ items.Begin me request ∷ (items_of_all xs ++ items.End me answer ∷ []) → Legal (state_of h) news → NoStop me.process news → (course_of me h.log).inside ≡ false
+    → Runs get_asks get_asked GetFed me first xs given last → IsEndOf given answer → own me news ≡ items.Begin me request ∷ (items_of_all xs ++ items.End me answer ∷ []) → Legal (state_of h) news → NoStop me.process news → (course_of me h.log).inside ≡ false
     → AsksGet request root driver key → HasKept h → OthersKeepRules me h news → answer ≡ answers.Miss → WasLacking me root driver key h news
 lookup_misses me request root driver key first last xs given answer h news fits new runs is e legal goes_on idle asks kept others miss =
     let r = asked_so request root driver key asks in

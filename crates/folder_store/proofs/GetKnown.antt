@@ -1,5 +1,5 @@
--- What a lookup knows in each of its phases among seats that keep the rules.
-use Rattle.std.proofs.Common.{◌≡◌, ℕ, length}
+-- What an answer of a lookup says of its operation among seats that keep the rules.
+use Rattle.std.proofs.Common.{ℕ}
 use Rattle.cache_types.specs.Driver.{DriverKeys}
 use Rattle.cache_types.specs.declared.answer.Answer.{Answer}
 use Rattle.cache_types.specs.declared.answer.Answer.TheVariants as answers
@@ -10,21 +10,16 @@ use Rattle.cache_types.specs.declared.request.RoPlan.{RoPlan}
 use Rattle.cache_types.specs.declared.seat.Who.{Who}
 use Rattle.file_log.specs.declared.item.LogItem.{LogItem}
 use Rattle.file_log.specs.declared.item.LogItem.TheVariants as items
-use Rattle.file_log.specs.Effect.{applied}
 use Rattle.file_log.specs.Log.{History}
-use Rattle.file_log.specs.State.{disk_of}
 use Rattle.seat_rules.specs.Changes.{with_item}
-use Rattle.seat_rules.specs.Address.{Address, address}
 use Rattle.layout_rules.specs.Parts.{Gives, IsHeld}
+use Rattle.seat_rules.specs.Address.{Address, address}
 use Rattle.layout_rules.specs.Rules.{AnswersAreEarned}
 use Rattle.folder_rules.specs.Whole.{folder_of}
 use Rattle.folder_changes.specs.Course.{HasSeen, HasFailed}
-use Rattle.folder_changes.specs.Frame.{Leaves}
 use Rattle.folder_changes.proofs.Earning.{seen_stays, meets, earns}
-use Rattle.folder_store.specs.declared.get.Phase.{Phase}
-use Rattle.folder_store.specs.declared.get.Phase.TheVariants.{Opening, Measuring, Reading, Closing, Ended, Spent}
 use Rattle.folder_store.proofs.Keeping.{Within, IsIn}
-use Rattle.folder_store.proofs.Opened.{HasOpen, open_other}
+use Rattle.folder_store.proofs.Opened.{HasOpen}
 
 module _ (me : Who) (root : ℕ) (driver : DriverKeys) (key : Key) (ro : RoPlan) where
   abbrev pub asked_for : Request
@@ -44,14 +39,6 @@ module _ (me : Who) (root : ℕ) (driver : DriverKeys) (key : Key) (ro : RoPlan)
   Told answers.NoMemory h = Unit {0}
   Told answer h = ⊥
 
-  abbrev pub KnowsAt : Phase → History → Type 0
-  KnowsAt Opening h = Unit {0}
-  KnowsAt Measuring h = Opens h
-  KnowsAt (Reading n) h = (o : Opens h) × (n ≡ length o.bytes)
-  KnowsAt (Closing answer) h = Told answer h
-  KnowsAt (Ended answer) h = Told answer h
-  KnowsAt Spent h = ⊥
-
   -- ---- an item more
 
   pub told_then : (answer : Answer) (h : History) (x : LogItem) → Within me x → Told answer h → Told answer (with_item h x)
@@ -60,15 +47,6 @@ module _ (me : Who) (root : ℕ) (driver : DriverKeys) (key : Key) (ro : RoPlan)
   told_then answers.FilesFault h x within t = (meets h x me asked_for within).stays_failed t
   told_then answers.NoMemory h x within t = tt
   told_then answer h x within t = absurd t
-
-  -- another seat's item
-  pub knows_other : (p : Phase) (h : History) (x : LogItem) → Within me x → Leaves h me (applied (disk_of h) x) → KnowsAt p h → KnowsAt p (with_item h x)
-  knows_other Opening h x within left k = tt
-  knows_other Measuring h x within left k = open_other me asked_for root key h x within left k
-  knows_other (Reading n) h x within left k = (open_other me asked_for root key h x within left k.0, k.1)
-  knows_other (Closing answer) h x within left k = told_then answer h x within k
-  knows_other (Ended answer) h x within left k = told_then answer h x within k
-  knows_other Spent h x within left k = absurd k
 
   -- ---- its End
 

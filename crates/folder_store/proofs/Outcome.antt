@@ -1,139 +1,155 @@
--- Which answer a lookup ends with, and that a fault is one that its log tells.
-use Rattle.std.proofs.Common.{◌≡◌, inl, inr, ℕ, Bool, true, false, cond, ltb, List, [], ◌∷◌, refl, sym, ap, ◌∙◌}
+-- Which answer a lookup ends with, what it rests on, and that a fault is one that its log tells.
+use Rattle.std.proofs.Common.{◌≡◌, ◌⊎◌, inl, inr, ℕ, Bool, true, false, ◌||◌, List, [], ◌∷◌, ◌++◌, Option, Some, None, refl, sym, ap, subst, ◌∙◌}
+use Rattle.std.proofs.lemmas.List.Concat.{flat_map-append}
+use Rattle.std.proofs.lemmas.List.Folds.{list_any-append}
+use Rattle.cache_types.specs.Driver.{DriverKeys}
 use Rattle.cache_types.specs.declared.answer.Answer.{Answer}
 use Rattle.cache_types.specs.declared.answer.Answer.TheVariants as answers
+use Rattle.cache_types.specs.declared.key.Key.{Key}
 use Rattle.cache_types.specs.declared.limits.TheConstants.{MAX_ITEM}
 use Rattle.cache_types.specs.declared.name.Name.TheVariants.{Entry}
 use Rattle.cache_types.specs.declared.seat.Who.{Who}
 use Rattle.file_log.specs.declared.call.Call.{Call}
-use Rattle.file_log.specs.declared.call.Call.TheVariants.{OpenOld, Length, ReadAt, Close}
 use Rattle.file_log.specs.declared.item.LogItem.{LogItem}
 use Rattle.file_log.specs.declared.reply.Reply.{Reply}
 use Rattle.file_log.specs.declared.reply.Reply.TheVariants as replies
-use Rattle.file_log.specs.Exchange.{Exchange}
-use Rattle.file_log.specs.Operation.{is_fault}
-use Rattle.files_api.specs.Drive.{items_of_all, SomeFailed}
+use Rattle.file_log.specs.Exchange.{Makes, Exchange}
+use Rattle.files_api.specs.declared.machine.Step.{Step}
+use Rattle.files_api.specs.Drive.{Runs, items_of_all, SomeFailed}
 use Rattle.item_frame.specs.Item.{Reads}
-use Rattle.folder_store.specs.declared.get.FolderGet.{FolderGet}
-use Rattle.folder_store.specs.declared.get.Phase.TheVariants.{Opening, Measuring, Reading, Closing, Ended}
+use Rattle.machine_parts.specs.declared.whole.Whole.TheVariants.{Going}
+use Rattle.machine_parts.proofs.Ends.{Comes, HasEnded, Came, Failed, Lacked, whole_ends, AnswersFaults, whole_faults, Judging, judged_comes}
+use Rattle.machine_parts.proofs.Readings.{HasRead, reading_comes}
+use Rattle.machine_parts.specs.Reading.{reading_asks, reading_next}
+use Rattle.folder_store.specs.declared.get.EntryFile.{EntryFile}
+use Rattle.folder_store.specs.declared.get.ForDriver.{ForDriver}
 use Rattle.folder_store.specs.Finds.{Finds}
+use Rattle.folder_store.specs.Gets.{entry_name, JudgesFor, GetPart, FolderGet, part_asks, part_asked, PartFed, part_slots, get_asks, get_asked, GetFed, IsNewPart, IsNew}
 use Rattle.folder_store.specs.Lookup.{IsLookupAnswer}
-use Rattle.folder_store.proofs.Items.{any_fault}
-use Rattle.folder_store.proofs.Calls.{From, Stepped, stepped, asks_at, next_of, done_is, not_done, not_ask, item_for}
+use Rattle.folder_store.proofs.Calls.{new_going}
+use Rattle.folder_store.proofs.Items.{any_fault, failures_told, failure_of, tests_faults, refused_no_fault}
 
--- what a run ends with: an answer of a lookup, and a fault exactly where a call failed
-pub record Outcome (answer : Answer) (made : List LogItem) (xs : List Exchange) : Type 0 where
-  pub kind : IsLookupAnswer answer
-  pub told : answer ≡ answers.FilesFault → any_fault made ≡ true
-  pub only : any_fault made ≡ true → answer ≡ answers.FilesFault
-  pub failed : answer ≡ answers.FilesFault → SomeFailed xs
+-- ---- a call that fails is told as a fault
 
--- ---- the last phases
+failure_fault : (me : Who) (call : Call) (reply : Reply) → reply ≡ replies.Failed → any_fault (failure_of me call reply) ≡ true
+failure_fault me call reply e = rw e refl
 
--- an answer that stands fast, and no failure after it
-pub record Settled (given answer : Answer) (made : List LogItem) : Type 0 where
-  pub same : answer ≡ given
-  pub fine : any_fault made ≡ false
+fault_failure : (me : Who) (call : Call) (reply : Reply) → any_fault (failure_of me call reply) ≡ true → reply ≡ replies.Failed
+fault_failure me call replies.Failed e = refl
+fault_failure me call replies.NoMemory e = let clash : false ≡ true = sym (refused_no_fault me call) ∙ e in absurd cc
+fault_failure me call reply e = absurd cc
 
-pub ended : (me : Who) (m last : FolderGet) (xs : List Exchange) (given answer : Answer) → m.phase ≡ Ended given → From me m xs answer last → Settled given answer (items_of_all xs)
-ended me m last [] given answer e run = record { same = sym (done_is given answer (asks_at m (Ended given) e ∙ run.0)); fine = refl }
-ended me m last (x ∷ xs) given answer e run = not_ask x.call given (asks_at m (Ended given) e ∙ run.0)
+one_of : (a b : Bool) → (a || b) ≡ true → (a ≡ true) ⊎ (b ≡ true)
+one_of true b e = inl refl
+one_of false b e = inr e
 
-close_step : (me : Who) (m last : FolderGet) (reply : Reply) (made : List LogItem) (xs : List Exchange) (given answer : Answer) → m.phase ≡ Closing given → Stepped me m last (Close 1) reply made xs answer → Settled given answer made
-close_step me m last replies.Done made xs given answer e s =
-    let end = ended me s.next last xs given answer (next_of m s.next (Closing given) replies.Done e s.fed) s.rest in
-    record { same = end.same; fine = ap any_fault s.items ∙ end.fine }
-close_step me m last reply made xs given answer e s = absurd s.fits
+or_true : (a b : Bool) → b ≡ true → (a || b) ≡ true
+or_true true b e = refl
+or_true false b e = e
 
-pub closing : (me : Who) (m last : FolderGet) (xs : List Exchange) (given answer : Answer) → m.phase ≡ Closing given → From me m xs answer last → Settled given answer (items_of_all xs)
-closing me m last [] given answer e run = not_done (Close 1) answer (asks_at m (Closing given) e ∙ run.0)
-closing me m last (x ∷ xs) given answer e run = close_step me m last x.reply (items_of_all (x ∷ xs)) xs given answer e (stepped me m last (Close 1) x xs answer tt (asks_at m (Closing given) e) run)
+module _ {M : Type 0} (asks : M → Step) (asked : M → M) (fed : M → Reply → M → Type 0) (me : Who) where
+  told_of : (call : Call) (reply : Reply) (made : List LogItem) → Makes me true call reply made → any_fault made ≡ any_fault (failure_of me call reply)
+  told_of call reply made makes = failures_told me _ (tests_faults me) call reply made makes
 
--- ---- what follows on a reply
+  pub faults_told : (m last : M) (xs : List Exchange) (answer : Answer) → Runs asks asked fed me m xs answer last → SomeFailed xs → any_fault (items_of_all xs) ≡ true
+  faults_told m last [] answer run some = absurd some
+  faults_told m last (x ∷ xs) answer run (inl e) = list_any-append _ x.items (items_of_all xs) ∙ ap (λ (b : Bool). b || any_fault (items_of_all xs)) (told_of x.call x.reply x.items run.2 ∙ failure_fault me x.call x.reply e)
+  faults_told m last (x ∷ xs) answer run (inr more) = list_any-append _ x.items (items_of_all xs) ∙ or_true (any_fault x.items) (any_fault (items_of_all xs)) (faults_told run.3.0 last xs answer run.3.2 more)
 
--- no failure: an answer other than a fault
-fine_end : (me : Who) (call : Call) (reply : Reply) (given answer : Answer) (made rest : List LogItem) (x : Exchange) (xs : List Exchange) → IsLookupAnswer given → (given ≡ answers.FilesFault → ⊥) → is_fault (item_for me call reply) ≡ false
-    → made ≡ item_for me call reply ∷ rest → Settled given answer rest → Outcome answer made (x ∷ xs)
-fine_end me call reply given answer made rest x xs kind none item is end =
-    let fine : any_fault made ≡ false = ap any_fault is ∙ rw item end.fine in
-    record {
-      kind = rw end.same kind;
-      told = λ e. absurd (none (sym end.same ∙ e));
-      only = λ e. let clash : true ≡ false = sym e ∙ fine in absurd cc;
-      failed = λ e. absurd (none (sym end.same ∙ e));
-    }
+  pub faults_only : (m last : M) (xs : List Exchange) (answer : Answer) → Runs asks asked fed me m xs answer last → any_fault (items_of_all xs) ≡ true → SomeFailed xs
+  faults_only m last [] answer run e = absurd cc
+  faults_only m last (x ∷ xs) answer run e = elim (one_of (any_fault x.items) (any_fault (items_of_all xs)) (sym (list_any-append _ x.items (items_of_all xs)) ∙ e)) [
+    | inl one ↦ inl (fault_failure me x.call x.reply (sym (told_of x.call x.reply x.items run.2) ∙ one))
+    | inr more ↦ inr (faults_only run.3.0 last xs answer run.3.2 more)
+  ]
 
--- a failure: a fault
-fault_end : (me : Who) (call : Call) (answer : Answer) (made rest : List LogItem) (x : Exchange) (xs : List Exchange) → x.reply ≡ replies.Failed → made ≡ item_for me call replies.Failed ∷ rest → Settled answers.FilesFault answer rest → Outcome answer made (x ∷ xs)
-fault_end me call answer made rest x xs failed is end =
-    record { kind = rw end.same tt; told = λ e. ap any_fault is; only = λ e. end.same; failed = λ e. inl failed }
+-- ---- what a lookup has read, and what it makes of it
 
--- another call follows
-then : (me : Who) (call : Call) (reply : Reply) (answer : Answer) (made rest : List LogItem) (x : Exchange) (xs : List Exchange) → is_fault (item_for me call reply) ≡ false → made ≡ item_for me call reply ∷ rest → Outcome answer rest xs → Outcome answer made (x ∷ xs)
-then me call reply answer made rest x xs item is more =
-    let same : any_fault made ≡ any_fault rest = ap any_fault is ∙ rw item refl in
-    record {
-      kind = more.kind;
-      told = λ e. same ∙ more.told e;
-      only = λ e. more.only (sym same ∙ e);
-      failed = λ e. inr (more.failed e);
-    }
+-- what a lookup made of what it read: its items, and those that close what is open
+pub record HasLooked (me : Who) (root : ℕ) (driver : DriverKeys) (key : Key) (answer : Answer) (made : List LogItem) : Type 0 where
+  pub judge : ForDriver
+  pub driver_is : judge.driver ≡ driver
+  pub given : Option (List ℕ)
+  pub read : List LogItem
+  pub closing : List LogItem
+  pub made_are : made ≡ read ++ closing
+  pub has_read : HasRead me 1 MAX_ITEM (Entry root key) given read
+  pub judged : JudgesFor judge given answer
 
--- ---- the phases from the last to the first
+-- what it ends with: what it made of what it read, a fault, or want of memory
+abbrev pub EndsSo : Who → ℕ → DriverKeys → Key → Answer → List LogItem → Type 0
+EndsSo me root driver key answer made = HasLooked me root driver key answer made ⊎ ((answer ≡ answers.FilesFault) ⊎ (answer ≡ answers.NoMemory))
 
--- what reading gives is no fault
-found_kind : (Held : List ℕ → Type 0) (answer : Answer) → Finds Held answer → IsLookupAnswer answer × (answer ≡ answers.FilesFault → ⊥)
-found_kind Held (answers.Hit blob) finds = (tt, λ e. absurd cc)
-found_kind Held answers.Miss finds = (tt, λ e. absurd cc)
-found_kind Held answers.NoMemory finds = (tt, λ e. absurd cc)
-found_kind Held answer finds = absurd finds
+module _ (me : Who) (root : ℕ) (driver : DriverKeys) (key : Key) where
+  abbrev PartComes : GetPart → List Exchange → Answer → Type 0
+  PartComes p xs answer = Comes part_asks part_asked PartFed me p xs answer
 
-read_step : (me : Who) (m last : FolderGet) (reply : Reply) (made : List LogItem) (x : Exchange) (xs : List Exchange) (answer : Answer) (length : ℕ) → m.phase ≡ Reading length → x.reply ≡ reply
-    → Stepped me m last (ReadAt 1 0 length) reply made xs answer → Outcome answer made (x ∷ xs)
-read_step me m last (replies.Got bytes) made x xs answer length e r s =
-    let next = next_of m s.next (Reading length) (replies.Got bytes) e s.fed in
-    let kind = found_kind (Reads m.driver bytes) next.0 next.2 in
-    fine_end me (ReadAt 1 0 length) (replies.Got bytes) next.0 answer made (items_of_all xs) x xs kind.0 kind.1 refl s.items (closing me s.next last xs next.0 answer next.1 s.rest)
-read_step me m last replies.Failed made x xs answer length e r s =
-    fault_end me (ReadAt 1 0 length) answer made (items_of_all xs) x xs r s.items (closing me s.next last xs answers.FilesFault answer (next_of m s.next (Reading length) replies.Failed e s.fed) s.rest)
-read_step me m last replies.NoMemory made x xs answer length e r s =
-    fine_end me (ReadAt 1 0 length) replies.NoMemory answers.NoMemory answer made (items_of_all xs) x xs tt (λ h. absurd cc) refl s.items (closing me s.next last xs answers.NoMemory answer (next_of m s.next (Reading length) replies.NoMemory e s.fed) s.rest)
-read_step me m last reply made x xs answer length e r s = absurd s.fits
+  abbrev Ended : GetPart → Answer → List Exchange → Type 0
+  Ended p answer xs = HasEnded part_asks part_asked PartFed part_slots me p answer xs
 
-reading : (me : Who) (m last : FolderGet) (xs : List Exchange) (answer : Answer) (length : ℕ) → m.phase ≡ Reading length → From me m xs answer last → Outcome answer (items_of_all xs) xs
-reading me m last [] answer length e run = not_done (ReadAt 1 0 length) answer (asks_at m (Reading length) e ∙ run.0)
-reading me m last (x ∷ xs) answer length e run = read_step me m last x.reply (items_of_all (x ∷ xs)) x xs answer length e refl (stepped me m last (ReadAt 1 0 length) x xs answer tt (asks_at m (Reading length) e) run)
+  has_judged : (p : GetPart) (xs : List Exchange) (answer : Answer) → PartComes p xs answer → Judging (reading_asks 1 entry_name) (λ r. r) (λ m reply a. a ≡ reading_next MAX_ITEM m reply) JudgesFor me p xs answer
+  has_judged p xs answer c = judged_comes (reading_asks 1 entry_name) (λ r. r) (λ m reply a. a ≡ reading_next MAX_ITEM m reply) JudgesFor me p xs answer c
 
-measure_step : (me : Who) (m last : FolderGet) (reply : Reply) (made : List LogItem) (x : Exchange) (xs : List Exchange) (answer : Answer) → m.phase ≡ Measuring → x.reply ≡ reply
-    → Stepped me m last (Length 1) reply made xs answer → Outcome answer made (x ∷ xs)
-measure_step me m last (replies.Number length) made x xs answer e r s = by_size (ltb MAX_ITEM length) (next_of m s.next Measuring (replies.Number length) e s.fed)
-  where
-    by_size : (b : Bool) → s.next.phase ≡ cond b (Closing answers.Miss) (Reading length) → Outcome answer made (x ∷ xs)
-    by_size true p = fine_end me (Length 1) (replies.Number length) answers.Miss answer made (items_of_all xs) x xs tt (λ h. absurd cc) refl s.items (closing me s.next last xs answers.Miss answer p s.rest)
-    by_size false p = then me (Length 1) (replies.Number length) answer made (items_of_all xs) x xs refl s.items (reading me s.next last xs answer length p s.rest)
-measure_step me m last replies.Failed made x xs answer e r s =
-    fault_end me (Length 1) answer made (items_of_all xs) x xs r s.items (closing me s.next last xs answers.FilesFault answer (next_of m s.next Measuring replies.Failed e s.fed) s.rest)
-measure_step me m last replies.NoMemory made x xs answer e r s =
-    fine_end me (Length 1) replies.NoMemory answers.NoMemory answer made (items_of_all xs) x xs tt (λ h. absurd cc) refl s.items (closing me s.next last xs answers.NoMemory answer (next_of m s.next Measuring replies.NoMemory e s.fed) s.rest)
-measure_step me m last reply made x xs answer e r s = absurd s.fits
+  ended_so : (p : GetPart) (answer : Answer) (xs : List Exchange) → IsNewPart root driver key p → Ended p answer xs → EndsSo me root driver key answer (items_of_all xs)
+  ended_so p answer xs new (Came ys zs e c z) =
+      let j = has_judged p ys answer c in
+      inl (record {
+        judge = p.judge;
+        driver_is = new.driver_is;
+        given = j.given;
+        read = items_of_all ys;
+        closing = items_of_all zs;
+        made_are = ap items_of_all e ∙ flat_map-append _ ys zs;
+        has_read = subst (λ (f : EntryFile). HasRead me 1 MAX_ITEM (entry_name f) j.given (items_of_all ys)) new.file_is (reading_comes me 1 MAX_ITEM entry_name p.part j.given ys new.opening j.comes);
+        judged = j.judged;
+      })
+  ended_so p answer xs new (Failed ys zs e b z a) = inr (inl a)
+  ended_so p answer xs new (Lacked ys zs e b z a) = inr (inr a)
 
-measuring : (me : Who) (m last : FolderGet) (xs : List Exchange) (answer : Answer) → m.phase ≡ Measuring → From me m xs answer last → Outcome answer (items_of_all xs) xs
-measuring me m last [] answer e run = not_done (Length 1) answer (asks_at m Measuring e ∙ run.0)
-measuring me m last (x ∷ xs) answer e run = measure_step me m last x.reply (items_of_all (x ∷ xs)) x xs answer e refl (stepped me m last (Length 1) x xs answer tt (asks_at m Measuring e) run)
+  ended_of : (p : GetPart) (m last : FolderGet) (xs : List Exchange) (answer : Answer) → m ≡ Going p → Runs get_asks get_asked GetFed me m xs answer last → Ended p answer xs
+  ended_of p m last xs answer going run = whole_ends part_asks part_asked PartFed part_slots me p m last xs answer going run
 
-open_step : (me : Who) (m last : FolderGet) (reply : Reply) (made : List LogItem) (x : Exchange) (xs : List Exchange) (answer : Answer) → m.phase ≡ Opening → x.reply ≡ reply
-    → Stepped me m last (OpenOld 1 (Entry m.root m.key)) reply made xs answer → Outcome answer made (x ∷ xs)
-open_step me m last replies.Done made x xs answer e r s =
-    then me (OpenOld 1 (Entry m.root m.key)) replies.Done answer made (items_of_all xs) x xs refl s.items (measuring me s.next last xs answer (next_of m s.next Opening replies.Done e s.fed) s.rest)
-open_step me m last replies.Missing made x xs answer e r s =
-    fine_end me (OpenOld 1 (Entry m.root m.key)) replies.Missing answers.Miss answer made (items_of_all xs) x xs tt (λ h. absurd cc) refl s.items (ended me s.next last xs answers.Miss answer (next_of m s.next Opening replies.Missing e s.fed) s.rest)
-open_step me m last replies.Failed made x xs answer e r s =
-    fault_end me (OpenOld 1 (Entry m.root m.key)) answer made (items_of_all xs) x xs r s.items (ended me s.next last xs answers.FilesFault answer (next_of m s.next Opening replies.Failed e s.fed) s.rest)
-open_step me m last replies.NoMemory made x xs answer e r s =
-    fine_end me (OpenOld 1 (Entry m.root m.key)) replies.NoMemory answers.NoMemory answer made (items_of_all xs) x xs tt (λ h. absurd cc) refl s.items (ended me s.next last xs answers.NoMemory answer (next_of m s.next Opening replies.NoMemory e s.fed) s.rest)
-open_step me m last reply made x xs answer e r s = absurd s.fits
+  pub looked_so : (m last : FolderGet) (xs : List Exchange) (answer : Answer) → IsNew root driver key m → Runs get_asks get_asked GetFed me m xs answer last → EndsSo me root driver key answer (items_of_all xs)
+  looked_so m last xs answer new run = let g = new_going root driver key m new in ended_so g.0 answer xs g.2 (ended_of g.0 m last xs answer g.1 run)
 
--- what a whole run ends with
-pub outcome : (me : Who) (m last : FolderGet) (xs : List Exchange) (answer : Answer) → m.phase ≡ Opening → From me m xs answer last → Outcome answer (items_of_all xs) xs
-outcome me m last [] answer e run = not_done (OpenOld 1 (Entry m.root m.key)) answer (asks_at m Opening e ∙ run.0)
-outcome me m last (x ∷ xs) answer e run = open_step me m last x.reply (items_of_all (x ∷ xs)) x xs answer e refl (stepped me m last (OpenOld 1 (Entry m.root m.key)) x xs answer tt (asks_at m Opening e) run)
+  -- ---- its answer
+
+  no_fault_found : (judge : ForDriver) (given : Option (List ℕ)) → JudgesFor judge given answers.FilesFault → ⊥
+  no_fault_found judge None j = absurd cc
+  no_fault_found judge (Some bytes) j = j
+
+  never_faults : (p : GetPart) (ys : List Exchange) → PartComes p ys answers.FilesFault → ⊥
+  never_faults p ys c = let j = has_judged p ys answers.FilesFault c in no_fault_found p.judge j.given j.judged
+
+  found_kind : (Held : List ℕ → Type 0) (answer : Answer) → Finds Held answer → IsLookupAnswer answer
+  found_kind Held (answers.Hit blob) f = tt
+  found_kind Held answers.Miss f = tt
+  found_kind Held answers.NoMemory f = tt
+  found_kind Held answer f = absurd f
+
+  judged_kind : (judge : ForDriver) (given : Option (List ℕ)) (answer : Answer) → JudgesFor judge given answer → IsLookupAnswer answer
+  judged_kind judge None answer j = rw j tt
+  judged_kind judge (Some bytes) answer j = found_kind (Reads judge.driver bytes) answer j
+
+  ends_kind : (answer : Answer) (made : List LogItem) → EndsSo me root driver key answer made → IsLookupAnswer answer
+  ends_kind answer made (inl l) = judged_kind l.judge l.given answer l.judged
+  ends_kind answer made (inr (inl e)) = rw e tt
+  ends_kind answer made (inr (inr e)) = rw e tt
+
+  -- what a run ends with: an answer of a lookup, and a fault exactly where a call failed
+  pub record Outcome (answer : Answer) (made : List LogItem) (xs : List Exchange) : Type 0 where
+    pub kind : IsLookupAnswer answer
+    pub told : answer ≡ answers.FilesFault → any_fault made ≡ true
+    pub only : any_fault made ≡ true → answer ≡ answers.FilesFault
+    pub failed : answer ≡ answers.FilesFault → SomeFailed xs
+
+  pub outcome : (m last : FolderGet) (xs : List Exchange) (answer : Answer) → IsNew root driver key m → Runs get_asks get_asked GetFed me m xs answer last → Outcome answer (items_of_all xs) xs
+  outcome m last xs answer new run =
+      let g = new_going root driver key m new in
+      let faults = whole_faults part_asks part_asked PartFed part_slots me g.0 answer xs (never_faults g.0) (ended_of g.0 m last xs answer g.1 run) in
+      record {
+        kind = ends_kind answer (items_of_all xs) (looked_so m last xs answer new run);
+        told = λ fault. faults_told get_asks get_asked GetFed me m last xs answer run (faults.told fault);
+        only = λ some. faults.only (faults_only get_asks get_asked GetFed me m last xs answer run some);
+        failed = faults.told;
+      }

@@ -15,22 +15,21 @@ use Rattle.file_log.specs.Operation.{LeavesAll, is_fault, calls_in}
 use Rattle.file_log.specs.State.{after, state_of}
 use Rattle.file_log.proofs.All.{none_keeps}
 use Rattle.files_api.specs.Drive.{items_of_all, IsEndOf, Refused, Unmade, Operated}
-use Rattle.folder_store.specs.declared.get.FolderGet.{FolderGet}
-use Rattle.folder_store.specs.declared.get.Phase.{Phase}
 use Rattle.folder_rules.specs.Holds.{FolderHolds}
 use Rattle.folder_store.specs.Finds.{FindsOrFails}
 use Rattle.folder_store.specs.Lookup.{IsLookupAnswer, LookedUp}
-use Rattle.folder_store.specs.Phases.{asks, asked, Fed, left_in, IsNew}
+use Rattle.folder_store.specs.Gets.{FolderGet, get_asks, get_asked, GetFed, get_left, IsNew}
+use Rattle.folder_store.specs.Rests.{RestsOn}
 use Rattle.folder_store.proofs.Items.{any_fault, all_within, all_counted}
-use Rattle.folder_store.proofs.Operations.{Grows-from, Legal-front, no_fault, never_fault, any_inside}
-use Rattle.folder_store.proofs.Calls.{looks, looks_within, same_root, looks_spend}
+use Rattle.folder_store.proofs.Operations.{Grows-from, no_fault, never_fault, any_inside}
+use Rattle.folder_store.proofs.Calls.{looks, looks_within, same_root, looks_spend, IsInRoot, new_root, new_left}
 use Rattle.folder_store.proofs.Still.{all_as_own, looking_stays, nothing_stays}
-use Rattle.folder_store.proofs.Outcome.{outcome}
+use Rattle.folder_store.proofs.Outcome.{EndsSo, outcome, looked_so}
 use Rattle.seat_rules.specs.Changes.{with_item}
 use Rattle.layout_rules.specs.Rules.{KeepsRules}
 use Rattle.folder_store.proofs.GetKeeps.{lookup_keeps, lookup_misses}
 use Rattle.folder_store.proofs.Keeping.{IsIdleIn, unmade_keeps}
-use Rattle.folder_store.proofs.Finding.{finding}
+use Rattle.folder_store.proofs.Finding.{finding, rests_so}
 
 module _ (me : Who) (request : Request) (root : ℕ) (driver : DriverKeys) (key : Key) (old new : Option History) (before now : ℕ) (answer : Answer) (idle : IsIdleIn me old) where
   -- ---- an operation that made no call
@@ -48,6 +47,7 @@ module _ (me : Who) (request : Request) (root : ℕ) (driver : DriverKeys) (key 
     told = Grows-from old new _ _ r.told (λ h news is_old o. record {
       operation = inl (o.own_items, r.answer_is);
       finds = λ alone. rw r.answer_is tt;
+      rests = rw r.answer_is tt;
       still = all_as_own after (LeavesAll me) me (λ s item other mine. let clash : false ≡ true = sym other ∙ mine in absurd cc) (state_of h) news (none_keeps after (LeavesAll me) me (state_of h) news o.own_items);
       fault = never_fault answer (own me news) r.answer_is (ap any_fault o.own_items);
       keeps = λ asks kept. none_keeps with_item KeepsRules me h news o.own_items;
@@ -62,6 +62,7 @@ module _ (me : Who) (request : Request) (root : ℕ) (driver : DriverKeys) (key 
     told = Grows-from old new _ _ r.told (λ h news is_old o. record {
       operation = inr (record { inner = []; whole = o.owns.own_items ∙ ap (λ (a : Answer). Begin me request ∷ End me a ∷ []) (sym r.answer_is); within = tt; few = omega arith });
       finds = λ alone. rw r.answer_is tt;
+      rests = rw r.answer_is tt;
       still = nothing_stays me request news (state_of h) o.owns.own_items o.owns.legal o.owns.goes_on;
       fault = never_fault answer (own me news) r.answer_is (ap any_fault o.owns.own_items);
       keeps = λ asks kept. unmade_keeps me request h news o.owns.own_items o.owns.legal o.owns.goes_on (idle h is_old) kept;
@@ -88,43 +89,44 @@ module _ (me : Who) (request : Request) (root : ℕ) (driver : DriverKeys) (key 
   end_finds given Held (inl e) finds = rw e finds
   end_finds given Held (inr lack) finds = rw lack.0 tt
 
-  operated : (IsMade : FolderGet → Type 0) → ((m : FolderGet) → IsMade m → IsNew root driver key m) → IsDriver driver → Operated asks asked Fed (λ m. left_in m.phase) IsMade me request old new before now answer
+  -- a blob that there is no memory for rests on nothing
+  end_rests : (given : Answer) (made : List LogItem) → IsEndOf given answer → RestsOn me root key made driver given → RestsOn me root key made driver answer
+  end_rests given made (inl e) rests = rw e rests
+  end_rests given made (inr lack) rests = rw lack.0 tt
+
+  operated : (IsMade : FolderGet → Type 0) → ((m : FolderGet) → IsMade m → IsNew root driver key m) → IsDriver driver → Operated get_asks get_asked GetFed get_left IsMade me request old new before now answer
       → LookedUp me request root driver key old new before now answer
   operated IsMade is_new fits r =
       let begun = is_new r.first r.made in
       let inner = items_of_all r.exchanges in
-      let out = outcome me r.first r.last r.exchanges r.given begun.opening r.runs in
-      let few : calls_in inner ≤ 4 = subst (λ (p : Phase). calls_in inner ≤ left_in p) begun.opening (all_counted asks asked Fed me (λ m. left_in m.phase) looks_spend r.first r.last r.exchanges r.given r.runs) in
+      let out = outcome me root driver key r.first r.last r.exchanges r.given begun r.runs in
+      let so : EndsSo me root driver key r.given inner = looked_so me root driver key r.first r.last r.exchanges r.given begun r.runs in
+      let few : calls_in inner ≤ 4 = subst (λ (n : ℕ). calls_in inner ≤ n) (new_left root driver key r.first begun) (all_counted get_asks get_asked GetFed me get_left looks_spend r.first r.last r.exchanges r.given r.runs) in
       record {
         kind = end_kind r.given r.answer_is out.kind;
         cause = λ e. r.counts.rose (out.failed (fault_given r.given r.answer_is e));
         told = Grows-from old new _ _ r.told (λ h news is_old o. record {
-          operation = inr (record { inner = inner; whole = o.owns.own_items; within = all_within asks asked Fed me root (λ m. m.root ≡ root) (looks_within root) (same_root root) r.first r.last r.exchanges r.given begun.root_is r.runs; few = few });
-          finds = λ alone. end_finds r.given _ r.answer_is (found r begun fits h news (sym alone ∙ o.owns.own_items) o.owns.legal);
-          still = looking_stays asks asked Fed me looks r.first request answer news (state_of h) r.exchanges r.given r.last r.runs r.answer_is o.owns.own_items o.owns.legal o.owns.goes_on;
+          operation = inr (record { inner = inner; whole = o.owns.own_items; within = all_within get_asks get_asked GetFed me root (IsInRoot root) (looks_within root) (same_root root) r.first r.last r.exchanges r.given (new_root root driver key r.first begun) r.runs; few = few });
+          finds = λ alone. end_finds r.given _ r.answer_is (found r.given inner so fits h news (sym alone ∙ o.owns.own_items) o.owns.legal);
+          still = looking_stays get_asks get_asked GetFed me looks r.first request answer news (state_of h) r.exchanges r.given r.last r.runs r.answer_is o.owns.own_items o.owns.legal o.owns.goes_on;
           fault =
               let same : any_fault (own me news) ≡ any_fault inner = ap any_fault o.owns.own_items ∙ any_inside is_fault me request answer inner refl refl in
               (λ e. same ∙ out.told (fault_given r.given r.answer_is e), λ some. fault_told r.given r.answer_is (out.only (sym same ∙ some)));
+          rests = end_rests r.given (own me news) r.answer_is (subst (λ (made : List LogItem). RestsOn me root key made driver r.given) (sym o.owns.own_items) (rests_so me root driver key r.given inner (Begin me request) (End me answer ∷ []) so));
           keeps = λ asks kept. lookup_keeps me request root driver key r.first r.last r.exchanges r.given answer h news fits begun r.runs r.answer_is o.owns.own_items o.owns.legal o.owns.goes_on (idle h is_old) asks kept;
           misses = lookup_misses me request root driver key r.first r.last r.exchanges r.given answer h news fits begun r.runs r.answer_is o.owns.own_items o.owns.legal o.owns.goes_on (idle h is_old);
         });
       }
     where
-      found : (r : Operated asks asked Fed (λ m. left_in m.phase) IsMade me request old new before now answer) → IsNew root driver key r.first → IsDriver driver → (h : History) (news : List LogItem)
-          → news ≡ Begin me request ∷ (items_of_all r.exchanges ++ End me answer ∷ []) → Legal (state_of h) news → FindsOrFails (FolderHolds (state_of h).disk root driver key) r.given
-      found r begun fits h news whole legal =
-          let inner = items_of_all r.exchanges in
-          let tail : List LogItem = End me answer ∷ [] in
+      found : (given : Answer) (inner : List LogItem) → EndsSo me root driver key given inner → IsDriver driver → (h : History) (news : List LogItem)
+          → news ≡ Begin me request ∷ (inner ++ End me answer ∷ []) → Legal (state_of h) news → FindsOrFails (FolderHolds (state_of h).disk root driver key) given
+      found given inner so fits h news whole legal =
           let legal' = subst (Legal (state_of h)) whole legal in
-          let s = after (state_of h) (Begin me request) in
-          let here = finding me s r.first r.last r.exchanges r.given (subst IsDriver (sym begun.driver_is) fits) begun.opening r.runs (Legal-front s inner tail legal'.1) in
-          let at_root = subst (λ (x : ℕ). FindsOrFails (FolderHolds s.disk x r.first.driver r.first.key) r.given) begun.root_is here in
-          let at_driver = subst (λ (x : DriverKeys). FindsOrFails (FolderHolds s.disk root x r.first.key) r.given) begun.driver_is at_root in
-          subst (λ (x : Key). FindsOrFails (FolderHolds s.disk root driver x) r.given) begun.key_is at_driver
+          finding me root driver key (after (state_of h) (Begin me request)) given inner (End me answer ∷ []) fits so legal'.1
 
   -- However it ended, it did what a lookup does.
   pub looked_up : (IsMade : FolderGet → Type 0) → ((m : FolderGet) → IsMade m → IsNew root driver key m) → IsDriver driver
-      → Refused me old new answer ⊎ (Unmade me request old new answer ⊎ Operated asks asked Fed (λ m. left_in m.phase) IsMade me request old new before now answer) → LookedUp me request root driver key old new before now answer
+      → Refused me old new answer ⊎ (Unmade me request old new answer ⊎ Operated get_asks get_asked GetFed get_left IsMade me request old new before now answer) → LookedUp me request root driver key old new before now answer
   looked_up IsMade is_new fits (inl r) = refused r
   looked_up IsMade is_new fits (inr (inl r)) = unmade r
   looked_up IsMade is_new fits (inr (inr r)) = operated IsMade is_new fits r

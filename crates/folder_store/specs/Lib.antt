@@ -1,6 +1,8 @@
 pub mod Finds
 pub mod Phases
-pub mod Laws
+pub mod Gets
+pub mod GetLaws
+pub mod Rests
 pub mod Keeping
 pub mod Lookup
 pub mod Readings

@@ -15,6 +15,7 @@ use Rattle.file_log.specs.State.{after, state_of, disk_of}
 use Rattle.file_log.specs.Told.{Grows, Rose}
 use Rattle.folder_rules.specs.Holds.{FolderHolds}
 use Rattle.folder_store.specs.Finds.{FindsOrFails}
+use Rattle.folder_store.specs.Rests.{RestsOn}
 use Rattle.folder_store.specs.Keeping.{HasKept, KeepsRulesAmong, OthersKeepRules, WasLacking, AsksGet}
 
 -- an answer that a lookup ends with
@@ -35,6 +36,8 @@ pub record LooksUp (me : Who) (request : Request) (root : ℕ) (driver : DriverK
   pub still : All after (LeavesAll me) (state_of h) news
   -- it answers a fault exactly where one of its calls failed other than for want of memory
   pub fault : (answer ≡ FilesFault) ↔ (list_any is_fault (own me news) ≡ true)
+  -- whatever others do, the answer rests on what its own items read
+  pub rests : RestsOn me root key (own me news) driver answer
   -- among seats that keep the rules it keeps them too, where this lookup was asked for
   pub keeps : AsksGet request root driver key → KeepsRulesAmong me h news
   -- and its miss says, also after stops and failed calls, that after one of its items the store held no such blob

@@ -1,69 +1,63 @@
-ghost use Rattle.std.specs.Prelude.{◌≡◌, nat_lt, if◌then◌else◌};
+ghost use Rattle.std.specs.Prelude.{◌≡◌};
 ghost use Rattle.item_frame.specs.Item.{Reads};
 ghost use Rattle.folder_store.specs.Finds.{Finds};
-ghost use Rattle.folder_store.specs.Phases.{IsNew, Next, fault};
+ghost use Rattle.folder_store.specs.Gets.{IsNew};
 
-use cache_types::{Answer, Driver, Key, MAX_ITEM, Name};
-use file_log::{Call, Reply};
-use files_api::{Machine, Step};
+use cache_types::{Answer, Bytes, Driver, Key, MAX_ITEM, Name};
 use item_frame::{ItemRefusal, read_blob};
+use machine_parts::{Judge, Judged, OldFile, Open, Reading, Whole};
 use std::alloc::Global;
-use std::mem;
-
-/// The slot of the entry's file.
-const SLOT: u8 = 1;
-
-/// How far a lookup has come.
-#[derive(Debug, Drop)]
-enum Phase {
-    /// It asks for the entry's file.
-    Opening,
-    /// It asks for the file's length.
-    Measuring,
-    /// It asks for all bytes of the file, so many.
-    Reading(u64),
-    /// It closes the file; this is its answer.
-    Closing(Answer),
-    /// This is its answer.
-    Ended(Answer),
-    /// Its answer was given.
-    Spent,
-}
 
 /// A lookup in a folder store: at most four calls, all in one root. It takes no lock and changes nothing.
 ///
 /// It ends in `Hit` with the blob that the entry's file holds for the driver; in `Miss` where there is no
 /// such file, it is longer than the longest item, or it holds no item of the driver; in `FilesFault` where a
 /// call failed; in `NoMemory`.
+pub type FolderGet = Whole<Judged<Reading<EntryFile>, ForDriver>>;
+
+/// The file of a key's entry.
 #[derive(Debug, Drop)]
-pub struct FolderGet {
+pub struct EntryFile {
     root: u32,
-    driver: Driver,
     key: Key,
-    alloc: Global,
-    phase: Phase,
 }
 
-impl FolderGet {
-    /// A lookup of a key for a driver in the store of this root. Takes no memory.
-    pub fn new(alloc: Global, root: u32, driver: Driver, key: Key) -> FolderGet
-        ensures { IsNew root driver key result }
-    {
-        FolderGet {
-            root,
-            driver,
-            key,
-            alloc,
-            phase: Phase::Opening,
+impl OldFile for EntryFile {
+    ghost use Rattle.cache_types.specs.declared.limits.TheConstants.{MAX_ITEM};
+    ghost use Rattle.folder_store.specs.Gets.{entry_name, one_is_small};
+
+    const SLOT: u8 = 1;
+
+    ghost SLOT = { 1 };
+
+    const LONGEST: u64 = MAX_ITEM;
+
+    ghost LONGEST = { MAX_ITEM };
+
+    ghost name = { entry_name };
+
+    fn name(&self) -> Name {
+        Name::Entry {
+            root: self.root,
+            key: self.key,
         }
     }
+
+    ghost small = { one_is_small };
+}
+
+/// Judges an entry's file for a driver.
+#[derive(Debug, Drop)]
+pub struct ForDriver {
+    alloc: Global,
+    driver: Driver,
 }
 
 /// The answer that a whole file gives.
-fn answer_of(alloc: Global, driver: &Driver, bytes: &[u8]) -> Answer
-    ensures { Finds (Reads driver.now bytes.now) result }
+fn answer_of(alloc: Global, driver: &Driver, bytes: Bytes) -> Answer
+    ensures { Finds (Reads driver.now bytes) result }
 {
-    match read_blob(alloc, driver, bytes) {
+    match read_blob(alloc, driver, bytes.as_slice()) {
         Ok(blob) => Answer::Hit(blob),
         Err(refusal) => match refusal {
             ItemRefusal::NoMemory => Answer::NoMemory,
@@ -72,92 +66,25 @@ fn answer_of(alloc: Global, driver: &Driver, bytes: &[u8]) -> Answer
     }
 }
 
-/// The answer after a call that failed or was refused memory.
-pub(crate) fn fault_of(reply: &Reply) -> Answer
-    ensures { result ≡ fault reply.now }
-{
-    match reply {
-        Reply::NoMemory => Answer::NoMemory,
-        _ => Answer::FilesFault,
-    }
-}
+impl Judge<Reading<EntryFile>> for ForDriver {
+    ghost use Rattle.folder_store.specs.Gets.{JudgesFor};
 
-/// What follows on a file's length: no file longer than the longest item holds one.
-fn measured(length: u64) -> Phase
-    ensures { result ≡ (if nat_lt MAX_ITEM length then Phase.Closing Answer.Miss else Phase.Reading length) }
-{
-    if length > MAX_ITEM {
-        Phase::Closing(Answer::Miss)
-    } else {
-        Phase::Reading(length)
-    }
-}
+    type Verdict = Answer;
 
-/// The phase after a reply.
-fn next_phase(alloc: Global, driver: &Driver, phase: Phase, reply: Reply) -> Phase
-    ensures { Next driver.now phase reply result }
-{
-    match (phase, reply) {
-        (Phase::Opening, Reply::Done) => Phase::Measuring,
-        (Phase::Opening, Reply::Missing) => Phase::Ended(Answer::Miss),
-        (Phase::Opening, other) => Phase::Ended(fault_of(&other)),
-        (Phase::Measuring, Reply::Number(length)) => measured(length),
-        (Phase::Reading(_), Reply::Got(bytes)) => {
-            Phase::Closing(answer_of(alloc, driver, bytes.as_slice()))
-        }
-        (Phase::Measuring | Phase::Reading(_), other) => Phase::Closing(fault_of(&other)),
-        (Phase::Closing(answer), _) => Phase::Ended(answer),
-        (Phase::Ended(_) | Phase::Spent, _) => Phase::Spent,
-    }
-}
+    ghost judges = { JudgesFor };
 
-impl Machine for FolderGet {
-    ghost use Rattle.folder_store.specs.Phases.{asks, asked, Fed, slots_in, hurt_in, left_in};
-    ghost use Rattle.folder_store.specs.Laws.{get_allowed, get_goes_on};
-
-    ghost asks = { asks };
-
-    ghost asked = { asked };
-
-    ghost fed = { Fed };
-
-    ghost slots = { λ m. slots_in m.phase };
-
-    ghost hurt = { λ m. hurt_in m.phase };
-
-    ghost left = { λ m. left_in m.phase };
-
-    fn next(&mut self) -> Step {
-        match &self.phase {
-            Phase::Opening => Step::Ask(Call::OpenOld {
-                slot: SLOT,
-                name: Name::Entry {
-                    root: self.root,
-                    key: self.key,
-                },
-            }),
-            Phase::Measuring => Step::Ask(Call::Length { slot: SLOT }),
-            Phase::Reading(length) => Step::Ask(Call::ReadAt {
-                slot: SLOT,
-                at: 0,
-                n: *length,
-            }),
-            Phase::Closing(_) => Step::Ask(Call::Close { slot: SLOT }),
-            Phase::Ended(_) | Phase::Spent => {
-                match mem::replace(&mut self.phase, Phase::Spent) {
-                    Phase::Ended(answer) => Step::Done(answer),
-                    _ => Step::Done(Answer::NoMemory),
-                }
-            }
+    fn judge(self, given: Option<Bytes>) -> Answer {
+        match given {
+            Some(bytes) => answer_of(self.alloc, &self.driver, bytes),
+            None => Answer::Miss,
         }
     }
+}
 
-    fn feed(&mut self, reply: Reply) {
-        let phase = mem::replace(&mut self.phase, Phase::Spent);
-        self.phase = next_phase(self.alloc, &self.driver, phase, reply);
-    }
-
-    ghost allowed = { get_allowed };
-
-    ghost goes_on = { get_goes_on };
+/// A lookup of a key for a driver in the store of this root, which has done nothing yet. Takes no memory.
+pub fn new_lookup(alloc: Global, root: u32, driver: Driver, key: Key) -> FolderGet
+    ensures { IsNew root driver key result }
+{
+    let entry = Reading::new(EntryFile { root, key }, Open::none());
+    Whole::Going(Judged::new(entry, ForDriver { alloc, driver }))
 }

@@ -8,7 +8,7 @@ mod put_phase;
 mod put_replies;
 mod putting;
 
-pub use get::FolderGet;
+pub use get::{EntryFile, FolderGet, ForDriver, new_lookup};
 pub use lookup::folder_get;
 pub use put::FolderPut;
 pub use put_phase::LOCK_TRIES;

@@ -149,6 +149,8 @@ impl Machine for FolderPut {
     ghost use Rattle.folder_store.specs.PutPhases.{asks_put, asked_put, FedPut, put_slots_in, put_hurt_in, put_left_in};
     ghost use Rattle.folder_store.specs.PutLaws.{put_allowed, put_goes_on};
 
+    ghost right = { λ m. Unit {0} };
+
     ghost asks = { asks_put };
 
     ghost asked = { asked_put };
@@ -204,7 +206,9 @@ impl Machine for FolderPut {
         self.phase = next_phase(&self.driver, phase, reply);
     }
 
-    ghost allowed = { put_allowed };
+    ghost allowed = { λ m right. put_allowed m };
 
-    ghost goes_on = { put_goes_on };
+    ghost goes_on = { λ m n reply right fed. put_goes_on m n reply fed };
+
+    ghost stays = { λ m n call reply right asks answers fed. tt };
 }

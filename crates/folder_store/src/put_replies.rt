@@ -3,11 +3,20 @@ ghost use Rattle.cache_types.specs.Driver.{Fronts};
 ghost use Rattle.folder_store.specs.Phases.{fault};
 ghost use Rattle.folder_store.specs.PutPhases.{NextPut, Judged, Read, Fronted, FrontRead, besides_in as the_besides_in, opened as the_opened, measured as the_measured, lock_opened as the_lock_opened, held as the_held, tried as the_tried, after_length as the_after_length, closing as the_closing, unless_done as the_unless_done};
 
-use crate::get::fault_of;
 use crate::put_phase::{Besides, LOCK_TRIES, Look, PutPhase};
 use cache_types::{Answer, Bytes, Driver, MAX_ITEM};
 use file_log::Reply;
 use item_frame::check_item;
+
+/// The answer after a call that failed or was refused memory.
+fn fault_of(reply: &Reply) -> Answer
+    ensures { result ≡ fault reply.now }
+{
+    match reply {
+        Reply::NoMemory => Answer::NoMemory,
+        _ => Answer::FilesFault,
+    }
+}
 
 /// What is open besides the entry's file at a look: the second is made under the lock.
 fn besides_in(look: Look) -> Besides

@@ -21,7 +21,6 @@ use Rattle.seat_rules.specs.Changes.{with_item}
 use Rattle.seat_rules.specs.Operations.{IsInside}
 use Rattle.layout_rules.specs.Rules.{AnswersAreEarned, KeepsRules}
 use Rattle.folder_changes.proofs.Earning.{earns}
-use Rattle.folder_store.specs.declared.get.FolderGet.{FolderGet}
 use Rattle.folder_store.specs.declared.put.FolderPut.{FolderPut}
 use Rattle.folder_store.proofs.AmongKnown.{Task}
 use Rattle.folder_store.proofs.AmongKnown as tasks
@@ -31,8 +30,7 @@ use Rattle.folder_store.proofs.GetKnown as lookups
 use Rattle.folder_store.proofs.Keeping.{CanFollow, IsIn, in_then, within_other, end_rules}
 use Rattle.folder_store.proofs.PutAlong as puts
 use Rattle.folder_store.proofs.PutEnds.{filled}
-use Rattle.folder_store.specs.Phases as get_phases
-use Rattle.folder_store.specs.Phases.{IsNew}
+use Rattle.folder_store.specs.Gets.{FolderGet, get_asks, get_asked, GetFed, IsNew}
 use Rattle.folder_store.specs.PutPhases.{IsNewPut, asks_put, asked_put, FedPut}
 use Rattle.op_machine.specs.declared.given.Given.{Given}
 use Rattle.op_machine.specs.declared.op.Op.{Op}
@@ -100,7 +98,7 @@ module _ (me : Who) (request : Request) where
 
   -- ---- along the log
 
-  get_laws : (f : ForGet) → Inductive get_phases.asks get_phases.asked get_phases.Fed me with_item CanFollow KeepsRules (gets.Between me f.root f.driver f.key f.ro f.fits) (gets.During me f.root f.driver f.key f.ro f.fits)
+  get_laws : (f : ForGet) → Inductive get_asks get_asked GetFed me with_item CanFollow KeepsRules (gets.Between me f.root f.driver f.key f.ro f.fits) (gets.During me f.root f.driver f.key f.ro f.fits)
   get_laws f = gets.inductive me f.root f.driver f.key f.ro f.fits
 
   put_laws : (f : ForPut) → Inductive asks_put asked_put FedPut f.task.me with_item CanFollow KeepsRules (puts.Between f.task (some f) f.reads) (puts.During f.task (some f) f.reads)
@@ -158,12 +156,12 @@ module _ (me : Who) (request : Request) where
 
   -- all is in order, and the seat is in the operation of the request
   pub is_in : (m : Op) (h : History) → Between m h → IsIn me request h
-  is_in (Get m) h b = subst (λ (r : Request). IsIn me r h) b.0.request_is b.1.1
+  is_in (Get m) h b = subst (λ (r : Request). IsIn me r h) b.0.request_is b.1.0
   is_in (Put m) h b = subst (λ (r : Request). IsIn me r h) b.0.request_is (subst (λ (w : Who). IsIn w (tasks.asked_for b.0.task) h) b.0.mine b.1.1)
   is_in (Refuse m) h b = b.0
 
   pub is_in_call : (m : Op) (call : Call) (reply : Reply) (made : List LogItem) (h : History) → During m call reply made h → IsIn me request h
-  is_in_call (Get m) call reply made h d = subst (λ (r : Request). IsIn me r h) d.0.request_is d.1.1
+  is_in_call (Get m) call reply made h d = subst (λ (r : Request). IsIn me r h) d.0.request_is d.1.0
   is_in_call (Put m) call reply made h d = subst (λ (r : Request). IsIn me r h) d.0.request_is (subst (λ (w : Who). IsIn w (tasks.asked_for d.0.task) h) d.0.mine d.1.1)
   is_in_call (Refuse m) call reply made h d = absurd d
 

@@ -5,7 +5,7 @@ use Rattle.cache_types.specs.declared.limits.TheConstants.{MAX_BLOB, MAX_KEYS}
 use Rattle.cache_types.specs.declared.request.Request.{Request}
 use Rattle.cache_types.specs.declared.request.Request.TheVariants as requests
 use Rattle.cache_types.specs.declared.store.Layout.TheVariants.{Folder}
-use Rattle.folder_store.specs.Phases.{IsNew}
+use Rattle.folder_store.specs.Gets.{IsNew}
 use Rattle.folder_store.specs.PutPhases.{IsNewPut}
 use Rattle.item_frame.specs.Item.{item_of}
 use Rattle.item_frame.specs.Writing.{key_count}

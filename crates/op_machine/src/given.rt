@@ -25,6 +25,8 @@ impl Machine for Given {
     ghost use Rattle.op_machine.specs.Given.{given_asks, given_asked, GivenFed, given_allowed, given_goes_on};
     ghost use Rattle.std.specs.Prelude.{false};
 
+    ghost right = { λ m. Unit {0} };
+
     ghost asks = { given_asks };
 
     ghost asked = { given_asked };
@@ -46,7 +48,9 @@ impl Machine for Given {
 
     fn feed(&mut self, _reply: Reply) {}
 
-    ghost allowed = { given_allowed };
+    ghost allowed = { λ m right. given_allowed m };
 
-    ghost goes_on = { given_goes_on };
+    ghost goes_on = { λ m n reply right fed. given_goes_on m n reply fed };
+
+    ghost stays = { λ m n call reply right asks answers fed. tt };
 }

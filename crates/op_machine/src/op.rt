@@ -5,7 +5,7 @@ use crate::given::Given;
 use cache_types::{Answer, MAX_BLOB, NoMemory, Request};
 use file_log::Reply;
 use files_api::{Machine, Step};
-use folder_store::{FolderGet, FolderPut};
+use folder_store::{FolderGet, FolderPut, new_lookup};
 use item_frame::write_item;
 use std::alloc::Global;
 
@@ -42,7 +42,7 @@ impl Op {
                 ..
             } => {
                 let driver = driver.copy()?;
-                Ok(Op::Get(FolderGet::new(alloc, store.root, driver, *key)))
+                Ok(Op::Get(new_lookup(alloc, store.root, driver, *key)))
             }
             Request::Put {
                 store,
@@ -67,7 +67,9 @@ impl Op {
 }
 
 impl Machine for Op {
-    ghost use Rattle.op_machine.specs.Machine.{asks, asked, Fed, slots, hurt, left, allowed, goes_on};
+    ghost use Rattle.op_machine.specs.Machine.{right, asks, asked, Fed, slots, hurt, left, allowed, goes_on, stays};
+
+    ghost right = { right };
 
     ghost asks = { asks };
 
@@ -100,4 +102,6 @@ impl Machine for Op {
     ghost allowed = { allowed };
 
     ghost goes_on = { goes_on };
+
+    ghost stays = { stays };
 }

@@ -22,7 +22,7 @@ use Rattle.seat_rules.proofs.Histories.{goes_by}
 use Rattle.layout_rules.proofs.Placing.{hold_along}
 use Rattle.folder_store.specs.Keeping.{HasKept, KeepsRulesAmong, AsksGet}
 use Rattle.folder_store.proofs.Operations.{Grows-map}
-use Rattle.op_union.specs.Cooperating.{KeepsOwn, MissesTruly}
+use Rattle.op_union.specs.Cooperating.{KeepsOwn, MissesTruly, AnswersAsRead}
 use Rattle.op_union.specs.Requests.{IsBuilt, Operates}
 
 -- a seat that isn't the first to break a rule in a log, nor in what follows where none broke one in it, isn't the first in both
@@ -63,3 +63,9 @@ module _ (me : Who) (old new : Option History) (before now : ℕ) (answer : Answ
   misses_truly (requests.Put store driver key meta blob limit) folder (inl put) = Grows-map old new _ _ put.1.told (λ h news puts. tt)
   misses_truly (requests.Put store driver key meta blob limit) folder (inr large) = Grows-map old new _ _ large.1.told (λ h news refuses. tt)
   misses_truly request folder done = absurd done
+
+  pub answers_as_read : (request : Request) → Operates me request old new before now answer → Grows old new (AnswersAsRead me request answer)
+  answers_as_read (requests.Get store driver key ro) done = Grows-map old new _ _ done.told (λ h news looks. looks.rests)
+  answers_as_read (requests.Put store driver key meta blob limit) (inl put) = Grows-map old new _ _ put.1.told (λ h news puts. tt)
+  answers_as_read (requests.Put store driver key meta blob limit) (inr large) = Grows-map old new _ _ large.1.told (λ h news refuses. tt)
+  answers_as_read request done = absurd done

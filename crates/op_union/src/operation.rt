@@ -1,7 +1,7 @@
 ghost use Rattle.std.specs.Prelude.{◌≡◌, ◌≤◌, ◌↔◌, IsTrue};
 ghost use Rattle.file_log.specs.Seat.{IsIdle};
 ghost use Rattle.file_log.specs.Told.{Grows};
-ghost use Rattle.op_union.specs.Cooperating.{KeepsOwn, MissesTruly};
+ghost use Rattle.op_union.specs.Cooperating.{KeepsOwn, MissesTruly, AnswersAsRead};
 ghost use Rattle.op_union.specs.Requests.{IsBuilt, IsPut, Belongs, store_of as the_store, kept_after, Operates};
 
 use crate::get::get_from_folder;
@@ -43,7 +43,9 @@ fn store_of(request: &Request) -> Option<Store>
 /// between any two, found that another seat holds it; and each of its items changes at most the lock file, which
 /// may come, its temporary file, and the entry by the renaming of that, which comes only with `Stored`.
 ///
-/// Others may act between any two of its calls, be stopped, and meet failures. In a log that began on an empty
+/// Others may act between any two of its calls, be stopped, and meet failures. Whatever they do, `Hit` comes only where an own
+/// reading of the whole entry got bytes that read for the driver as its blob, and `Miss` only where it got others, or where the
+/// file wasn't there or was longer than the longest item. In a log that began on an empty
 /// disk a seat that was not the first to break a rule isn't the first by this operation either. As long as no
 /// seat breaks one, `Miss` says that after one of its own items the store held no such blob.
 pub fn run_op<F: Files>(
@@ -57,6 +59,7 @@ pub fn run_op<F: Files>(
     requires belongs { Belongs state.old.store (the_store request) }
     ensures done { Operates (F.me files.old) request (F.history files.old) (F.history files.new) (F.faults files.old) (F.faults files.new) result }
     ensures keeps { Grows (F.history files.old) (F.history files.new) (KeepsOwn (F.me files.old)) }
+    ensures rests { Grows (F.history files.old) (F.history files.new) (AnswersAsRead (F.me files.old) request result) }
     ensures misses { Grows (F.history files.old) (F.history files.new) (MissesTruly (F.me files.old) request result) }
     ensures idle { IsIdle (F.seen files.new) }
     ensures me { F.me files.new ≡ F.me files.old }

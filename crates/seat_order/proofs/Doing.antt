@@ -21,10 +21,10 @@ use Rattle.file_model.specs.declared.step.Progress.{Progress}
 use Rattle.file_model.specs.declared.step.Progress.TheVariants as progresses
 use Rattle.file_model.specs.Steps.{byte_item, done_items, step_items, StepFits}
 use Rattle.files_api.specs.declared.machine.Step.TheVariants.{Ask, Done}
-use Rattle.files_api.specs.Drive.{Allows, IsWithin, IsEndOf, items_of_all}
+use Rattle.files_api.specs.Drive.{IsWithin, IsEndOf, items_of_all}
 use Rattle.seat_rules.proofs.Courses.{outside_then, outside_end}
 use Rattle.op_machine.specs.declared.op.Op.{Op}
-use Rattle.op_machine.specs.Machine.{asks, asked, Fed, slots, hurt, allowed}
+use Rattle.op_machine.specs.Machine.{asks, asked, Fed}
 use Rattle.op_machine.specs.Requests.{IsOpOf}
 use Rattle.seat_order.specs.Places.{Where, Leads}
 use Rattle.seat_order.specs.Doing.{HasCome, IsAmid, HasDone}
@@ -34,7 +34,7 @@ use Rattle.seat_order.proofs.Giving.{come_ends, none_ends, told_ends}
 use Rattle.seat_order.proofs.Making.{none_before, more_made, made_all, answers_so}
 use Rattle.seat_order.proofs.Mine.{step_mine}
 use Rattle.seat_order.proofs.Readying.{leads_more}
-use Rattle.seat_order.proofs.Running.{runs_more, come_few, amid_few}
+use Rattle.seat_order.proofs.Running.{asks_inside, runs_more, come_few, amid_few}
 
 module _ (me : Who) where
   -- an item of another
@@ -74,7 +74,7 @@ module _ (me : Who) where
   -- ---- a step of a call
 
   is_within : (m : Op) (call : Call) → asks m ≡ Ask call → IsWithin call
-  is_within m call e = (subst (Allows (slots m) (hurt m)) e (allowed m)).1
+  is_within m call e = asks_inside m call e
 
   byte_one : (call : Call) (done : ℕ) → IsOneOfCall (byte_item me call done)
   byte_one (calls.WriteAt slot at bytes) done = tt

@@ -4,6 +4,7 @@ use Rattle.std.proofs.lemmas.Bool.{ltb-true, ltb-false}
 use Rattle.cache_types.specs.Answers.{IsSmall}
 use Rattle.cache_types.specs.declared.answer.Answer.{Answer}
 use Rattle.cache_types.specs.declared.answer.Answer.TheVariants as answers
+use Rattle.cache_types.specs.Driver.{DriverKeys}
 use Rattle.cache_types.specs.declared.key.Key.{Key}
 use Rattle.cache_types.specs.declared.limits.TheConstants.{MAX_BLOB}
 use Rattle.cache_types.specs.declared.request.Request.{Request}
@@ -15,12 +16,10 @@ use Rattle.file_log.specs.Exchange.{Exchange}
 use Rattle.files_api.specs.declared.machine.Step.{Step}
 use Rattle.files_api.specs.declared.machine.Step.TheVariants.{Done}
 use Rattle.files_api.specs.Drive.{Runs, IsEndOf, items_of_all}
-use Rattle.folder_store.specs.declared.get.FolderGet.{FolderGet}
-use Rattle.folder_store.specs.declared.get.Phase.TheVariants as phases
 use Rattle.folder_store.specs.declared.put.FolderPut.{FolderPut}
 use Rattle.folder_store.specs.declared.put_phase.Look.TheVariants.{First}
 use Rattle.folder_store.specs.declared.put_phase.PutPhase.TheVariants as puts
-use Rattle.folder_store.specs.Phases as gets
+use Rattle.folder_store.specs.Gets.{FolderGet, IsNew, get_asks, get_asked, GetFed}
 use Rattle.folder_store.specs.Put.{IsPutAnswer}
 use Rattle.folder_store.specs.PutPhases.{asks_put, asked_put, FedPut}
 use Rattle.folder_store.proofs.Calls.{done_is}
@@ -51,10 +50,10 @@ kind_runs asks_m asked_m FedM kind same me m last (x ∷ xs) given run =
     let rest = kind_runs asks_m asked_m FedM kind same me next.0 last xs given (subst (λ (n : Op). Runs asks asked Fed me n xs given last) next.1 run.3.2) in
     (rest.0, (sym (same.asks_same m) ∙ run.0, run.1, run.2, (next.0, next.2, rest.1)))
 
-get_kind : IsKind gets.asks gets.asked gets.Fed ops.Get
+get_kind : IsKind get_asks get_asked GetFed ops.Get
 get_kind = record { asks_same = λ m. refl; fed_same = fed }
   where
-    fed : (m : FolderGet) (reply : Reply) (n : Op) → Fed (asked (ops.Get m)) reply n → (k : FolderGet) × (n ≡ ops.Get k) × gets.Fed (gets.asked m) reply k
+    fed : (m : FolderGet) (reply : Reply) (n : Op) → Fed (asked (ops.Get m)) reply n → (k : FolderGet) × (n ≡ ops.Get k) × GetFed (get_asked m) reply k
     fed m reply (ops.Get n) f = (n, refl, f)
     fed m reply n f = absurd f
 
@@ -68,10 +67,10 @@ put_kind = record { asks_same = λ m. refl; fed_same = fed }
 -- ---- what it gives
 
 module _ (me : Who) where
-  get_gives : (first : FolderGet) (last : Op) (xs : List Exchange) (given : Answer) → first.phase ≡ phases.Opening → Runs asks asked Fed me (ops.Get first) xs given last → EndsLookup given (items_of_all xs)
-  get_gives first last xs given opening run =
-      let r = kind_runs gets.asks gets.asked gets.Fed ops.Get get_kind me first last xs given run in
-      let out = outcome me first r.0 xs given opening r.1 in
+  get_gives : (root : ℕ) (driver : DriverKeys) (key : Key) (first : FolderGet) (last : Op) (xs : List Exchange) (given : Answer) → IsNew root driver key first → Runs asks asked Fed me (ops.Get first) xs given last → EndsLookup given (items_of_all xs)
+  get_gives root driver key first last xs given new run =
+      let r = kind_runs get_asks get_asked GetFed ops.Get get_kind me first last xs given run in
+      let out = outcome me root driver key first r.0 xs given new r.1 in
       record { kind = out.kind; fault = (out.told, out.only) }
 
   put_gives : (first : FolderPut) (last : Op) (xs : List Exchange) (given : Answer) → first.phase ≡ puts.Opening First → Runs asks asked Fed me (ops.Put first) xs given last → EndsPut first.root first.key given (items_of_all xs)
@@ -82,7 +81,7 @@ module _ (me : Who) where
       record { kind = out.kind; fault = (out.told, out.only); busy = busy_is me first.root first.key given (items_of_all xs) tried }
 
   gives_so : (request : Request) (first m : Op) (xs : List Exchange) (given : Answer) → IsOpOf request first → RunsTo me first xs m → asks m ≡ Done given → EndsFor request given (items_of_all xs)
-  gives_so (requests.Get store driver key ro) (ops.Get first) m xs given new runs e = get_gives first (asked m) xs given new.opening (runs_out me (ops.Get first) m xs given runs e)
+  gives_so (requests.Get store driver key ro) (ops.Get first) m xs given new runs e = get_gives store.root driver key first (asked m) xs given new (runs_out me (ops.Get first) m xs given runs e)
   gives_so (requests.Put store driver key meta blob limit) (ops.Put first) m xs given new runs e =
       let gives = put_gives first (asked m) xs given new.1.opening (runs_out me (ops.Put first) m xs given runs e) in
       let at_root = subst (λ (r : ℕ). EndsPut r first.key given (items_of_all xs)) new.1.root_is gives in

@@ -27,7 +27,7 @@ use Rattle.op_machine.specs.Requests.{IsOpOf}
 use Rattle.seat_order.specs.Places.{Where, Leads}
 use Rattle.seat_order.proofs.Starting.{starts_empty}
 use Rattle.seat_order.specs.Slots.{HasThose}
-use Rattle.seat_order.proofs.Slots.{other_keeps, none_other, none_still, byte_keeps, begun_has, machine_may, machine_done, machine_goes}
+use Rattle.seat_order.proofs.Slots.{other_keeps, those_stay, those_write, none_other, none_still, begun_has, machine_may, machine_done, machine_goes}
 use Rattle.seat_order.specs.Ready.{IsCalling, IsReady}
 use Rattle.seat_order.proofs.Making.{place_at_first, answers_so}
 
@@ -47,8 +47,8 @@ module _ (me : Who) where
   pub ready_stays : (place : Where) (h : History) (x : LogItem) → IsReady me place h → is_own me x ≡ false → is_stop me.process x ≡ false → IsReady me place (with_item h x)
   ready_stays Where.Outside h x s other goes = none_other me h x s other goes
   ready_stays (Where.Begun request) h x s other goes = other_keeps me (λ at. false) false h x s other goes
-  ready_stays (Where.Between m) h x s other goes = other_keeps me (slots m) (hurt m) h x s other goes
-  ready_stays (Where.Within n call done) h x s other goes = record { m = s.m; asked_is = s.asked_is; asks_so = s.asks_so; place = s.place; seen = other_keeps me (slots s.m) (hurt s.m) h x s.seen other goes }
+  ready_stays (Where.Between m) h x s other goes = those_stay me m h x s other goes
+  ready_stays (Where.Within n call done) h x s other goes = record { m = s.m; asked_is = s.asked_is; asks_so = s.asks_so; place = s.place; seen = those_stay me s.m h x s.seen other goes }
   ready_stays (Where.Ending given) h x s other goes = other_keeps me (λ at. false) true h x s other goes
 
   -- ---- its own
@@ -84,7 +84,7 @@ module _ (me : Who) where
     asked_is = w.asked_is;
     asks_so = w.asks_so;
     place = inr more;
-    seen = byte_keeps me (slots w.m) (hurt w.m) h slot (at + done) (get_or bytes done 0) w.seen;
+    seen = those_write me w.m h slot (at + done) (get_or bytes done 0) w.seen;
   }
 
   goes_more : (n : Op) (call : Call) (done : ℕ) (place : Where) (h : History) → IsReady me (Where.Within n call done) h → StepFits progresses.More true call done → Leads n call done progresses.More place
@@ -118,7 +118,7 @@ module _ (me : Who) where
 
   -- its operation is open
   pub ready_inside : (n : Op) (call : Call) (done : ℕ) (h : History) → IsReady me (Where.Within n call done) h → (course_of me h.log).inside ≡ true
-  ready_inside n call done h s = s.seen.inside
+  ready_inside n call done h s = s.seen.1.inside
 
   pub ready_ending : (given : Answer) (h : History) → IsReady me (Where.Ending given) h → (course_of me h.log).inside ≡ true
   ready_ending given h s = s.inside

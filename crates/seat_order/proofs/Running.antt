@@ -14,16 +14,13 @@ use Rattle.file_log.specs.declared.item.LogItem.{LogItem}
 use Rattle.file_log.specs.Exchange.{Answers, Makes, Exchange, items_before}
 use Rattle.files_api.specs.declared.machine.Step.{Step}
 use Rattle.files_api.specs.declared.machine.Step.TheVariants.{Ask, Done}
-use Rattle.files_api.specs.Drive.{Runs, items_of_all}
+use Rattle.files_api.specs.Drive.{IsWithin, Runs, items_of_all}
 use Rattle.seat_rules.specs.Answers.{root_of}
-use Rattle.folder_store.specs.declared.get.Phase.{Phase}
-use Rattle.folder_store.specs.declared.get.Phase.TheVariants as phases
 use Rattle.folder_store.specs.declared.put_phase.Look.TheVariants.{First, Second}
 use Rattle.folder_store.specs.declared.put_phase.PutPhase.{PutPhase}
 use Rattle.folder_store.specs.declared.put_phase.PutPhase.TheVariants as puts
-use Rattle.folder_store.specs.Phases as gets
 use Rattle.folder_store.specs.PutPhases.{asks_put_in, put_left_in}
-use Rattle.folder_store.proofs.Calls.{looks_within, same_root, looks_spend, not_ask}
+use Rattle.folder_store.proofs.Calls.{IsInRoot, looks, looking_within, looks_within, same_root, looks_spend, has_call, new_root, new_left, not_ask}
 use Rattle.folder_store.proofs.Items.{AsksWithin, Lasts, Spends}
 use Rattle.folder_store.proofs.PutCalls.{put_within, same_put_root, put_spends}
 use Rattle.op_machine.specs.declared.op.Op.{Op}
@@ -49,7 +46,7 @@ op_spends m n call reply e fits fed = absurd fed
 
 -- a machine of this root
 abbrev IsIn : ℕ → Op → Type 0
-IsIn root (ops.Get m) = m.root ≡ root
+IsIn root (ops.Get m) = IsInRoot root m
 IsIn root (ops.Put m) = m.root ≡ root
 IsIn root (ops.Refuse m) = Unit {0}
 
@@ -57,6 +54,12 @@ op_within : (root : ℕ) → AsksWithin asks asked Fed root (IsIn root)
 op_within root (ops.Get m) call here e = looks_within root m call here e
 op_within root (ops.Put m) call here e = put_within root m call here e
 op_within root (ops.Refuse m) call here e = no_ask m.answer call e
+
+-- what it asks stands within an operation
+pub asks_inside : (m : Op) (call : Call) → asks m ≡ Ask call → IsWithin call
+asks_inside (ops.Get m) call e = looking_within call (looks m call e)
+asks_inside (ops.Put m) call e = (put_within m.root m call refl e).0
+asks_inside (ops.Refuse m) call e = no_ask m.answer call e
 
 op_stays : (root : ℕ) → Lasts asks asked Fed (IsIn root)
 op_stays root (ops.Get m) (ops.Get n) reply here fed = same_root root m n reply here fed
@@ -68,13 +71,6 @@ op_stays root m n reply here fed = absurd fed
 abbrev HasLeft : Step → ℕ → Type 0
 HasLeft (Ask call) k = 1 ≤ k
 HasLeft (Done answer) k = Unit {0}
-
-get_has_left : (root : ℕ) (key : Key) (p : Phase) → HasLeft (gets.asks_in root key p) (gets.left_in p)
-get_has_left root key phases.Opening = omega arith
-get_has_left root key phases.Measuring = omega arith
-get_has_left root key (phases.Reading length) = omega arith
-get_has_left root key (phases.Closing answer) = omega arith
-get_has_left root key p = tt
 
 put_has_left : (root : ℕ) (key : Key) (item : List ℕ) (p : PutPhase) → HasLeft (asks_put_in root key item p) (put_left_in p)
 put_has_left root key item (puts.Opening First) = omega arith
@@ -99,7 +95,7 @@ put_has_left root key item (puts.ClosingLock answer) = omega arith
 put_has_left root key item p = tt
 
 has_left : (m : Op) (call : Call) → asks m ≡ Ask call → 1 ≤ left m
-has_left (ops.Get m) call e = subst (λ (s : Step). HasLeft s (gets.left_in m.phase)) e (get_has_left m.root m.key m.phase)
+has_left (ops.Get m) call e = has_call m call e
 has_left (ops.Put m) call e = subst (λ (s : Step). HasLeft s (put_left_in m.phase)) e (put_has_left m.root m.key m.item m.phase)
 has_left (ops.Refuse m) call e = no_ask m.answer call e
 
@@ -132,14 +128,14 @@ module _ (me : Who) where
 
 -- it has no more calls than the request may make
 first_left : (request : Request) (m : Op) → IsOpOf request m → left m ≤ most_calls request
-first_left (requests.Get store driver key ro) (ops.Get m) new = rw new.opening (omega arith)
+first_left (requests.Get store driver key ro) (ops.Get m) new = omega (arith, new_left store.root driver key m new)
 first_left (requests.Put store driver key meta blob limit) (ops.Put m) new = rw new.1.opening (rw (le-ltb MAX_BLOB (length blob) new.0) (omega arith))
 first_left request (ops.Refuse m) new = omega arith
 first_left request m new = absurd new
 
 -- and is in its root
 first_in : (request : Request) (m : Op) → IsOpOf request m → IsIn (root_of request) m
-first_in (requests.Get store driver key ro) (ops.Get m) new = new.root_is
+first_in (requests.Get store driver key ro) (ops.Get m) new = new_root store.root driver key m new
 first_in (requests.Put store driver key meta blob limit) (ops.Put m) new = new.1.root_is
 first_in request (ops.Refuse m) new = tt
 first_in request m new = absurd new

@@ -36,7 +36,7 @@ use Rattle.seat_rules.specs.Changes.{with_item}
 use Rattle.seat_rules.proofs.Histories.{disk_then}
 use Rattle.folder_store.proofs.Keeping.{course_then}
 use Rattle.op_machine.specs.declared.op.Op.{Op}
-use Rattle.op_machine.specs.Machine.{asks, asked, Fed, slots, hurt, left, allowed, goes_on}
+use Rattle.op_machine.specs.Machine.{right, asks, asked, Fed, slots, hurt, left, allowed, goes_on, stays}
 use Rattle.seat_order.specs.Slots.{HasSlots, HasNone, HasThose}
 
 -- ---- changes that fill and empty no slot
@@ -181,24 +181,31 @@ module _ (me : Who) where
 
   -- ---- of a machine
 
-  asks_allowed : (m : Op) (call : Call) → asks m ≡ Ask call → Allows (slots m) (hurt m) (Ask call)
-  asks_allowed m call e = subst (Allows (slots m) (hurt m)) e (allowed m)
+  asks_allowed : (m : Op) (call : Call) → right m → asks m ≡ Ask call → Allows (slots m) (hurt m) (Ask call)
+  asks_allowed m call r e = subst (Allows (slots m) (hurt m)) e (allowed m r)
+
+  -- another seat's item, and a byte of its own
+  pub those_stay : (m : Op) (h : History) (x : LogItem) → HasThose me m h → is_own me x ≡ false → is_stop me.process x ≡ false → HasThose me m (with_item h x)
+  those_stay m h x s other goes = (s.0, other_keeps (slots m) (hurt m) h x s.1 other goes)
+
+  pub those_write : (m : Op) (h : History) (slot at value : ℕ) → HasThose me m h → HasThose me m (with_item h (items.Byte me slot at value))
+  those_write m h slot at value s = (s.0, byte_keeps (slots m) (hurt m) h slot at value s.1)
 
   -- what it asks for the seat may ask
   pub machine_may : (m : Op) (call : Call) (h : History) → asks m ≡ Ask call → HasThose me m h → MayCall (seen_of me h) call
-  machine_may m call h e s = may_ask (slots m) (hurt m) call h s (asks_allowed m call e).0
+  machine_may m call h e s = may_ask (slots m) (hurt m) call h s.1 (asks_allowed m call s.0 e).0
 
   -- once it is done no slot is filled
   pub machine_done : (m : Op) (given : Answer) (h : History) → asks m ≡ Done given → HasThose me m h → HasSlots me (λ at. false) true h
   machine_done m given h e s =
-      let none : Allows (slots m) (hurt m) (Done given) = subst (Allows (slots m) (hurt m)) e (allowed m) in
-      record { filled = λ at. s.filled at ∙ none at; inside = s.inside; covers = λ failed. refl }
+      let none : Allows (slots m) (hurt m) (Done given) = subst (Allows (slots m) (hurt m)) e (allowed m s.0) in
+      record { filled = λ at. s.1.filled at ∙ none at; inside = s.1.inside; covers = λ failed. refl }
 
   -- a machine that was fed the reply has the slots that the call left
   pub machine_goes : (m n : Op) (call : Call) (reply : Reply) (done : ℕ) (h : History) → asks m ≡ Ask call → HasThose me m h → Fed (asked m) reply n → Answers true call reply → Legal (state_of h) (step_items (progresses.Reply reply) me true call done)
       → HasThose me n (with_items h (step_items (progresses.Reply reply) me true call done))
   machine_goes m n call reply done h e s fed fits legal =
-      let within : IsWithin call = (asks_allowed m call e).1 in
-      let moves : Moves (slots m) (hurt m) (left m) call reply (slots n) (hurt n) (left n) = subst (λ (a : Step). Goes (slots m) (hurt m) (left m) a reply (slots n) (hurt n) (left n)) e (goes_on m n reply fed) fits in
-      let had = seen_then (slots m) (hurt m) call reply done h s within legal in
-      record { filled = λ at. had.filled at ∙ sym (moves.filled at); inside = had.inside; covers = λ failed. moves.covers (had.covers failed) }
+      let within : IsWithin call = (asks_allowed m call s.0 e).1 in
+      let moves : Moves (slots m) (hurt m) (left m) call reply (slots n) (hurt n) (left n) = subst (λ (a : Step). Goes (slots m) (hurt m) (left m) a reply (slots n) (hurt n) (left n)) e (goes_on m n reply s.0 fed) fits in
+      let had = seen_then (slots m) (hurt m) call reply done h s.1 within legal in
+      (stays m n call reply s.0 e fits fed, record { filled = λ at. had.filled at ∙ sym (moves.filled at); inside = had.inside; covers = λ failed. moves.covers (had.covers failed) })

@@ -38,7 +38,7 @@ use Rattle.seat_order.specs.Places.{Where, Leads}
 use Rattle.seat_order.specs.Standing.{Stands, IsWithin}
 use Rattle.seat_order.proofs.Making.{none_before, place_at_first, made_all, answers_so}
 use Rattle.seat_order.proofs.Starting.{starts, starts_empty}
-use Rattle.seat_order.proofs.Slots.{other_keeps, none_other, none_still, byte_keeps, begun_has, machine_may, machine_done, machine_goes}
+use Rattle.seat_order.proofs.Slots.{other_keeps, those_stay, those_write, none_other, none_still, begun_has, machine_may, machine_done, machine_goes}
 use Rattle.std.proofs.lemmas.List.Sums.{fold-append}
 use Rattle.std.specs.Prelude.{fold}
 use Rattle.file_log.specs.Seat.{Course, course_after}
@@ -149,7 +149,7 @@ module _ (me : Who) where
             goes = λ reply made rest fits makes e. ((known.inductive me w.request).steps w.m call reply x rest h (w.making.goes reply made (x ∷ rest) fits makes (e ∙ apart rest)) legal).1;
           };
           place = inr more;
-          seen = byte_keeps me (slots w.m) (hurt w.m) h slot (at + done) (get_or bytes done 0) w.seen;
+          seen = those_write me w.m h slot (at + done) (get_or bytes done 0) w.seen;
         },
       )
 
@@ -202,7 +202,7 @@ module _ (me : Who) where
   pub stays : (place : Where) (h : History) (x : LogItem) → Stands me place h → is_own me x ≡ false → is_stop me.process x ≡ false → CanFollow h x → KeepsRules h x → Stands me place (with_item h x)
   stays Where.Outside h x s other goes legal rules = (out_other me h x s.0 other legal rules, none_other me h x s.1 other goes)
   stays (Where.Begun request) h x s other goes legal rules = record { fits = s.fits; inside = in_then me request h x s.inside (within_other me x other) legal rules; seen = other_keeps me (λ at. false) false h x s.seen other goes }
-  stays (Where.Between m) h x s other goes legal rules = (s.0, (known.inductive me s.0).between m x h s.1 other goes legal rules, other_keeps me (slots m) (hurt m) h x s.2 other goes)
+  stays (Where.Between m) h x s other goes legal rules = (s.0, (known.inductive me s.0).between m x h s.1 other goes legal rules, those_stay me m h x s.2 other goes)
   stays (Where.Within n call done) h x s other goes legal rules = record {
     request = s.request;
     m = s.m;
@@ -213,7 +213,7 @@ module _ (me : Who) where
       goes = λ reply made rest fits makes e. (known.inductive me s.request).others s.m call reply rest x h (s.making.goes reply made rest fits makes e) other goes legal rules;
     };
     place = s.place;
-    seen = other_keeps me (slots s.m) (hurt s.m) h x s.seen other goes;
+    seen = those_stay me s.m h x s.seen other goes;
   }
   stays (Where.Ending given) h x s other goes legal rules = record {
     request = s.request;
@@ -235,7 +235,7 @@ module _ (me : Who) where
 
   -- its operation is open
   pub is_inside : (n : Op) (call : Call) (done : ℕ) (h : History) → Stands me (Where.Within n call done) h → (course_of me h.log).inside ≡ true
-  is_inside n call done h s = s.seen.inside
+  is_inside n call done h s = s.seen.1.inside
 
   pub ending_inside : (given : Answer) (h : History) → Stands me (Where.Ending given) h → (course_of me h.log).inside ≡ true
   ending_inside given h s = s.seen.inside

@@ -1,7 +1,9 @@
 -- The machine that was made for a request, as the operation begins.
-use Rattle.std.proofs.Common.{◌≡◌, ◌<◌, ◌≤◌, ℕ, true, false, List, length, refl, sym, ap, subst}
-use Rattle.std.proofs.lemmas.Bool.{eq-eqb, lt-ltb}
+use Rattle.std.proofs.Common.{◌≡◌, ◌<◌, ◌≤◌, ℕ, true, false, List, length, refl, sym, ap, ◌∙◌, subst}
+use Rattle.std.proofs.lemmas.Bool.{false≢true, eq-eqb, lt-ltb}
 use Rattle.cache_types.specs.declared.answer.Answer.TheVariants.{TooLarge}
+use Rattle.cache_types.specs.Driver.{DriverKeys}
+use Rattle.cache_types.specs.declared.key.Key.{Key}
 use Rattle.cache_types.specs.declared.limits.TheConstants.{MAX_BLOB, MAX_KEYS}
 use Rattle.cache_types.specs.declared.meta.Meta.{Meta}
 use Rattle.cache_types.specs.declared.meta.Meta.TheVariants.{Unknown, Glsl}
@@ -21,11 +23,11 @@ use Rattle.seat_rules.specs.Operations.{IsInside}
 use Rattle.layout_rules.specs.Rules.{AnswersAreEarned}
 use Rattle.folder_rules.specs.Whole.{folder_of}
 use Rattle.folder_changes.proofs.Earning.{earns}
-use Rattle.folder_store.specs.declared.get.Phase.{Phase}
 use Rattle.folder_store.specs.declared.put_phase.PutPhase.{PutPhase}
-use Rattle.folder_store.specs.Phases.{slots_in, hurt_in}
+use Rattle.folder_store.specs.Gets.{FolderGet, IsNew, get_slots, get_hurt}
 use Rattle.folder_store.specs.PutPhases.{put_slots_in, put_hurt_in}
 use Rattle.folder_store.proofs.AmongKnown.{Task}
+use Rattle.folder_store.proofs.Calls.{new_right, new_empty}
 use Rattle.folder_store.proofs.Keeping.{IsIn}
 use Rattle.op_machine.specs.declared.op.Op.{Op}
 use Rattle.op_machine.specs.declared.op.Op.TheVariants.{Get, Put, Refuse}
@@ -62,9 +64,12 @@ starts me (requests.Put store driver key meta blob limit) (Refuse m) h built new
     known.given_starts me request m h i (subst (known.IsEarnedByAny me request) (sym new.1) large)
 starts me request m h built new fits i = absurd new
 
+get_empty : (me : Who) (root : ℕ) (driver : DriverKeys) (key : Key) (m : FolderGet) (h : History) → IsNew root driver key m → HasSlots me (λ at. false) false h → HasSlots me (get_slots m) (get_hurt m) h
+get_empty me root driver key m h new s = record { filled = λ at. s.filled at ∙ sym (new_empty root driver key m new at); inside = s.inside; covers = λ failed. absurd (false≢true (s.covers failed)) }
+
 -- it has filled no slot
 pub starts_empty : (me : Who) (request : Request) (m : Op) (h : History) → IsOpOf request m → HasSlots me (λ at. false) false h → HasThose me m h
-starts_empty me (requests.Get store driver key ro) (Get m) h new s = subst (λ (p : Phase). HasSlots me (slots_in p) (hurt_in p) h) (sym new.opening) s
-starts_empty me (requests.Put store driver key meta blob limit) (Put m) h new s = subst (λ (p : PutPhase). HasSlots me (put_slots_in p) (put_hurt_in p) h) (sym new.1.opening) s
-starts_empty me (requests.Put store driver key meta blob limit) (Refuse m) h new s = s
+starts_empty me (requests.Get store driver key ro) (Get m) h new s = (new_right store.root driver key m new, get_empty me store.root driver key m h new s)
+starts_empty me (requests.Put store driver key meta blob limit) (Put m) h new s = (tt, subst (λ (p : PutPhase). HasSlots me (put_slots_in p) (put_hurt_in p) h) (sym new.1.opening) s)
+starts_empty me (requests.Put store driver key meta blob limit) (Refuse m) h new s = (tt, s)
 starts_empty me request m h new s = absurd new

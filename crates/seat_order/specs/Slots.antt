@@ -6,7 +6,7 @@ use Rattle.file_log.specs.Seat.{course_of}
 use Rattle.file_log.specs.State.{disk_of}
 use Rattle.file_model.specs.Calls.{filled_of}
 use Rattle.op_machine.specs.declared.op.Op.{Op}
-use Rattle.op_machine.specs.Machine.{slots, hurt}
+use Rattle.op_machine.specs.Machine.{right, slots, hurt}
 
 module _ (me : Who) where
   -- the seat is in an operation, these slots of it are filled, and a call of it failed only where this says so
@@ -18,6 +18,6 @@ module _ (me : Who) where
   abbrev pub HasNone : History → Type 0
   HasNone h = (at : ℕ) → filled_of (disk_of h) me at ≡ false
 
-  -- it has filled the slots that its machine says
+  -- it has filled the slots that its machine says, and what holds of that from its making on holds
   abbrev pub HasThose : Op → History → Type 0
-  HasThose m h = HasSlots (slots m) (hurt m) h
+  HasThose m h = right m × HasSlots (slots m) (hurt m) h

@@ -84,7 +84,7 @@ module _ {apart : Who → Bool} (who : Who) (w w' : Held) (seats seats' : List S
   within_there : (n : Op) (call : Call) (done : ℕ) → seats_at seats who ≡ Where.Within n call done → IsWithin call
   within_there n call done at =
       let s = (stands_there (Where.Within n call done) at).ready in
-      (subst (Allows (slots s.m) (hurt s.m)) s.asks_so (allowed s.m)).1
+      (subst (Allows (slots s.m) (hurt s.m)) s.asks_so (allowed s.m s.seen.0)).1
 
   goes_seated : (step : Step) (n : Op) (done : ℕ) (failing : Option Bool) → seats_at seats who ≡ where_in step n done → Goes who step n done failing w w' moved → AreSeated apart w' seats'
   goes_seated (Ask call) n done failing at x = ask_seated who w w' seats seats' moved a known goes changes once n call done failing at (inside_there n call done at) x

@@ -24,11 +24,12 @@ calls-preserved g c =
     let fed : m.fed (m.asked now) reply next = rw (← c.in-Ask.ensures.after) c.feed.ensures in
     let within = c.calls.invariant.inside in
     let fits = subst (λ (b : Bool). Answers b call reply) within c.call-reply.ensures.fits in
-    let goes = subst (λ (s : Step). Goes (m.slots now) (m.hurt now) (m.left now) s reply (m.slots next) (m.hurt next) (m.left next)) is (g.met.M.Machine.goes_on now next reply fed) fits in
-    let allows = subst (λ (s : Step). Allows (m.slots now) (m.hurt now) s) is (g.met.M.Machine.allowed now) in
+    let goes = subst (λ (s : Step). Goes (m.slots now) (m.hurt now) (m.left now) s reply (m.slots next) (m.hurt next) (m.left next)) is (g.met.M.Machine.goes_on now next reply c.calls.invariant.right fed) fits in
+    let allows = subst (λ (s : Step). Allows (m.slots now) (m.hurt now) s) is (g.met.M.Machine.allowed now c.calls.invariant.right) in
     let same : seen.filled ≡ m.slots now = fun_ext c.calls.invariant.slots in
     let told = subst (λ (b : Bool). Called (f.me c.calls.files) b call reply (f.history c.calls.files) (f.history c.call-reply.new.self)) within c.call-reply.ensures.told in
     record {
+      right = g.met.M.Machine.stays now next call reply c.calls.invariant.right is fits fed;
       calm = λ e. goes.covers (hurt_then seen (m.slots now) (m.hurt now) call reply same within c.calls.invariant.calm (sym c.call-reply.ensures.seen.hurt ∙ e));
       slots = λ at. c.call-reply.ensures.seen.filled at ∙ filled_then seen (m.slots now) (m.hurt now) call reply same within at ∙ sym (goes.filled at);
       inside = c.call-reply.ensures.seen.inside ∙ inside_then seen (m.slots now) (m.hurt now) call reply same within allows.1;

@@ -7,6 +7,7 @@ invariant-calls g l =
     let m = g.M.Machine in
     let f = g.F.Files in
     record {
+      right : m.right l.machine;
       slots : (at : ℕ) → (f.seen l.files).filled at ≡ m.slots l.machine at;
       calm : (f.seen l.files).hurt ≡ true → m.hurt l.machine ≡ true;
       inside : (f.seen l.files).inside ≡ true;

@@ -1,0 +1,4 @@
+pub mod Looking
+pub mod Kept
+pub mod Ends
+pub mod Readings
