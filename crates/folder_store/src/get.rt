@@ -3,11 +3,10 @@ ghost use Rattle.item_frame.specs.Item.{Reads};
 ghost use Rattle.folder_store.specs.Finds.{Finds};
 ghost use Rattle.folder_store.specs.Phases.{IsNew, Next, fault};
 
-use cache_types::{Answer, Driver, Key, MAX_ITEM, Name};
+use cache_types::{Answer, Bytes, Driver, Key, MAX_ITEM, Name};
 use file_log::{Call, Reply};
 use files_api::{Machine, Step};
-use item_frame::{ItemRefusal, read_blob};
-use std::alloc::Global;
+use item_frame::take_blob;
 use std::mem;
 
 /// The slot of the entry's file.
@@ -40,35 +39,30 @@ pub struct FolderGet {
     root: u32,
     driver: Driver,
     key: Key,
-    alloc: Global,
     phase: Phase,
 }
 
 impl FolderGet {
     /// A lookup of a key for a driver in the store of this root. Takes no memory.
-    pub fn new(alloc: Global, root: u32, driver: Driver, key: Key) -> FolderGet
+    pub fn new(root: u32, driver: Driver, key: Key) -> FolderGet
         ensures { IsNew root driver key result }
     {
         FolderGet {
             root,
             driver,
             key,
-            alloc,
             phase: Phase::Opening,
         }
     }
 }
 
-/// The answer that a whole file gives.
-fn answer_of(alloc: Global, driver: &Driver, bytes: &[u8]) -> Answer
-    ensures { Finds (Reads driver.now bytes.now) result }
+/// The answer that a whole file gives: a blob stays in the memory of what was read.
+fn answer_of(driver: &Driver, bytes: Bytes) -> Answer
+    ensures { Finds (Reads driver.now bytes) result }
 {
-    match read_blob(alloc, driver, bytes) {
+    match take_blob(driver, bytes) {
         Ok(blob) => Answer::Hit(blob),
-        Err(refusal) => match refusal {
-            ItemRefusal::NoMemory => Answer::NoMemory,
-            _ => Answer::Miss,
-        },
+        Err(_) => Answer::Miss,
     }
 }
 
@@ -94,7 +88,7 @@ fn measured(length: u64) -> Phase
 }
 
 /// The phase after a reply.
-fn next_phase(alloc: Global, driver: &Driver, phase: Phase, reply: Reply) -> Phase
+fn next_phase(driver: &Driver, phase: Phase, reply: Reply) -> Phase
     ensures { Next driver.now phase reply result }
 {
     match (phase, reply) {
@@ -102,9 +96,7 @@ fn next_phase(alloc: Global, driver: &Driver, phase: Phase, reply: Reply) -> Pha
         (Phase::Opening, Reply::Missing) => Phase::Ended(Answer::Miss),
         (Phase::Opening, other) => Phase::Ended(fault_of(&other)),
         (Phase::Measuring, Reply::Number(length)) => measured(length),
-        (Phase::Reading(_), Reply::Got(bytes)) => {
-            Phase::Closing(answer_of(alloc, driver, bytes.as_slice()))
-        }
+        (Phase::Reading(_), Reply::Got(bytes)) => Phase::Closing(answer_of(driver, bytes)),
         (Phase::Measuring | Phase::Reading(_), other) => Phase::Closing(fault_of(&other)),
         (Phase::Closing(answer), _) => Phase::Ended(answer),
         (Phase::Ended(_) | Phase::Spent, _) => Phase::Spent,
@@ -154,7 +146,7 @@ impl Machine for FolderGet {
 
     fn feed(&mut self, reply: Reply) {
         let phase = mem::replace(&mut self.phase, Phase::Spent);
-        self.phase = next_phase(self.alloc, &self.driver, phase, reply);
+        self.phase = next_phase(&self.driver, phase, reply);
     }
 
     ghost allowed = { get_allowed };

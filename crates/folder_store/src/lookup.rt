@@ -34,6 +34,6 @@ pub fn folder_get<F: Files>(
     driver.known();
     files.known();
     operate(alloc, files, request, move || {
-        Ok(FolderGet::new(alloc, root, driver, key))
+        Ok(FolderGet::new(root, driver, key))
     })
 }

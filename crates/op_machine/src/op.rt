@@ -42,7 +42,7 @@ impl Op {
                 ..
             } => {
                 let driver = driver.copy()?;
-                Ok(Op::Get(FolderGet::new(alloc, store.root, driver, *key)))
+                Ok(Op::Get(FolderGet::new(store.root, driver, *key)))
             }
             Request::Put {
                 store,
