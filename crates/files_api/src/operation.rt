@@ -71,10 +71,7 @@ fn tell_end<F: Files>(alloc: Global, files: &mut F, answer: Answer) -> Answer
     ensures faults { F.faults files.old ≤ F.faults files.new }
     ensures told { Grows (F.history files.old) (F.history files.new) (OwnsToEnd (F.me files.old) (End (F.me files.old) result ∷ [])) }
 {
-    let Ok(copy) = answer.copy(alloc) else {
-        return give_up(files);
-    };
-    if tell(files, Note::End(copy)) {
+    if files.end(alloc, &answer) {
         return answer;
     }
     give_up(files)

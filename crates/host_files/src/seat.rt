@@ -84,12 +84,17 @@ impl Seat {
                 self.hurt = false;
             }
             Note::Evict { .. } => {}
-            Note::End(_) => {
-                self.inside = false;
-                self.hurt = false;
-            }
+            Note::End(_) => self.end(),
         }
         Reply::Done
+    }
+
+    /// The open operation has ended.
+    pub fn end(&mut self)
+        ensures { self.new ≡ record self.old { inside = false; hurt = false } }
+    {
+        self.inside = false;
+        self.hurt = false;
     }
 
     /// A call wasn't done: an open operation is hurt, and a refusal of the system is counted, once.
