@@ -60,7 +60,7 @@ fn serve(
 {
     let alloc = rt.alloc();
     let mut files = HostFiles::new(alloc, rt.clone()?, ME, paths)?;
-    let mut source = HostSource::new(alloc, rt.clone()?);
+    let mut source = HostSource::new(rt.clone()?);
     let mut out = HostSink::new(rt.clone()?);
     Ok(run(alloc, words, vars, &mut files, &mut source, &mut out))
 }
