@@ -1,4 +1,4 @@
-ghost use Rattle.std.specs.Prelude.{◌≡◌, ◌<◌, ◌++◌, ◌∷◌, [], length, take, drop, IfOk, OnOk, OnErr, slice_set, nat_eq};
+ghost use Rattle.std.specs.Prelude.{◌≡◌, ◌<◌, ◌≤◌, ◌-◌, ◌++◌, ◌∷◌, [], length, take, drop, IfOk, OnOk, OnErr, slice_set, nat_eq};
 ghost use Rattle.std.specs.List.{AllByRecursion};
 ghost use Rattle.std.specs.Cmp.Lexicographic.{pointwise, nat_list_eq_equiv};
 ghost use Rattle.std.specs.Cmp.{partial_equiv_from_equiv};
@@ -70,6 +70,22 @@ impl Bytes {
         Bytes { items, skipped }
     }
 
+    /// These bytes behind others, which are copied before them into room that [`behind`](Bytes::behind) left there. Where that isn't
+    /// enough all are copied into new memory, and else none is taken.
+    pub fn fronted(self, front: &[u8]) -> Result<Bytes, NoMemory>
+        ensures { IfOk result (λ b. b ≡ front.now ++ self) }
+    {
+        if self.skipped < front.len() {
+            return joined(*self.items.allocator(), front, self.as_slice());
+        }
+        let Bytes { mut items, skipped } = self;
+        put_before(items.as_mut_slice(), skipped, front);
+        Ok(Bytes {
+            items,
+            skipped: skipped - front.len(),
+        })
+    }
+
     /// The bytes. Takes no memory.
     pub fn as_slice(&self) -> &[u8]
         ensures { result.now ≡ self.now }
@@ -130,6 +146,25 @@ impl Bytes {
     {
         are_bytes(self.as_slice());
     }
+}
+
+/// A copy of two slices, one behind the other.
+fn joined(alloc: Global, front: &[u8], rest: &[u8]) -> Result<Bytes, NoMemory>
+    ensures { IfOk result (λ b. b ≡ front.now ++ rest.now) }
+{
+    let mut items = Vec::from_slice(alloc, front)?;
+    items.extend_from_slice(rest)?;
+    Ok(Bytes::from_vec(items))
+}
+
+/// Copies bytes to where they end at a place.
+fn put_before(items: &mut [u8], end: usize, bytes: &[u8])
+    requires within { end ≤ length items.old }
+    requires fits { length bytes.now ≤ end }
+    ensures len { length items.new ≡ length items.old }
+    ensures front { drop (end - length bytes.now) items.new ≡ bytes.now ++ drop end items.old }
+{
+    items[end - bytes.len()..end].copy_from_slice(bytes);
 }
 
 /// What is known of all bytes of a slice.

@@ -21,7 +21,7 @@ use Rattle.file_log.specs.Log.{History, with_items, is_own, own}
 use Rattle.file_log.specs.Operation.{IsOperation, IsStill, is_fault}
 use Rattle.file_log.specs.State.{after, state_of, disk_of}
 use Rattle.file_log.specs.Told.{Grows, Rose}
-use Rattle.item_frame.specs.Item.{ReadsAs}
+use Rattle.item_frame.specs.Item.{ReadsAs, item_of}
 use Rattle.folder_rules.specs.Changes.{with_item, is_rename}
 use Rattle.folder_rules.specs.Holds.{FolderHolds, address, IsHeld}
 use Rattle.folder_rules.specs.Rules.{EntriesStayWhole}
@@ -47,6 +47,11 @@ IsPutAnswer answer = ⊥
 abbrev pub AsksPut : Request → ℕ → DriverKeys → Key → List ℕ → Type 0
 AsksPut (requests.Put store driver' key' meta blob limit) root driver key item = (store ≡ folder_of root) × (driver' ≡ driver) × (key' ≡ key) × ReadsAs driver item meta blob
 AsksPut request root driver key item = ⊥
+
+-- the item of a put's blob
+abbrev pub item_in : Request → List ℕ
+item_in (requests.Put store driver key meta blob limit) = item_of driver meta blob
+item_in request = []
 
 -- the blob that a put asks to be stored
 abbrev pub blob_in : Request → List ℕ

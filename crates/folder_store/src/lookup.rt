@@ -33,7 +33,7 @@ pub fn folder_get<F: Files>(
 {
     driver.known();
     files.known();
-    operate(alloc, files, request, move || {
+    operate(alloc, files, request, move |_request| {
         Ok(FolderGet::new(root, driver, key))
     })
 }

@@ -3,7 +3,7 @@ ghost use Rattle.std.specs.Prelude.{◌≡◌};
 use crate::fault::Fault;
 use crate::seat::Seat;
 use crate::system;
-use cache_types::{Answer, Bytes, Name, NoMemory, Text, Who};
+use cache_types::{Answer, Bytes, Name, NoMemory, Request, Text, Who};
 use file_log::{Call, Note, Reply};
 use files_api::Files;
 use path_names::{Paths, has_path, path_of};
@@ -262,6 +262,13 @@ impl<R: RealFiles<File = File> + Clock + Drop> Files for HostFiles<R> {
         ensures outside { (HasPaths self.old.paths c → ⊥) → result ≡ Failed }
     {
         self.made(&c)
+    }
+
+    /// No log is told, so the request isn't copied.
+    fn begin(&mut self, _alloc: Global, _request: &Request) -> bool {
+        self.waits = 0;
+        self.seat.begin();
+        true
     }
 
     /// No log is told, so the answer isn't copied.

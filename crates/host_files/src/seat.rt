@@ -79,14 +79,19 @@ impl Seat {
         ensures slots { self.new.slots ≡ self.old.slots }
     {
         match note {
-            Note::Begin(_) => {
-                self.inside = true;
-                self.hurt = false;
-            }
+            Note::Begin(_) => self.begin(),
             Note::Evict { .. } => {}
             Note::End(_) => self.end(),
         }
         Reply::Done
+    }
+
+    /// An operation has begun.
+    pub fn begin(&mut self)
+        ensures { self.new ≡ record self.old { inside = true; hurt = false } }
+    {
+        self.inside = true;
+        self.hurt = false;
     }
 
     /// The open operation has ended.
