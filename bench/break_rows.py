@@ -29,7 +29,7 @@ OTHERS = {
 
 def breaks_of(row):
     """Each way to break what a row wants."""
-    head = row.split()[0]
+    head = re.sub(r"^((until|from) \d+ )+", "", row).split()[0]
     if head in GIVEN:
         return
     wanted = ("ends", "saying", "prints") if head == "run" else WANTED
