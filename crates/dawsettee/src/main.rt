@@ -90,7 +90,7 @@ fn serve(
 {
     let alloc = rt.alloc();
     let mut files = HostFiles::new(alloc, rt.clone()?, ME, paths)?;
-    let mut source = HostSource::new(alloc, rt.clone()?);
+    let mut source = HostSource::new(rt.clone()?);
     let mut out = HostSink::new(rt.clone()?);
     let status = run(alloc, words, vars, &mut files, &mut source, &mut out);
     let failure = Failure::of_run(alloc, status, &files, &source, &out);

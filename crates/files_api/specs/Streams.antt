@@ -9,10 +9,10 @@ abbrev pub GivesNext : Option (List ℕ) → Option (List ℕ) → ℕ → List 
 GivesNext None left n into = Unit {0}
 GivesNext (Some bytes) left n into = (take n into ≡ take n bytes) × (n ≤ length bytes) × (left ≡ Some (drop n bytes)) × (n ≡ 0 → 0 < length into → bytes ≡ [])
 
--- what a reading did to the bytes that are left, and to the slice
-abbrev pub IsRead : Took → Option (List ℕ) → Option (List ℕ) → List ℕ → List ℕ → Type 0
-IsRead (took.Some n) old new from into = (n ≤ length from) × (drop n into ≡ drop n from) × GivesNext old new n into
-IsRead took.Failed old new from into = (new ≡ old) × (into ≡ from)
+-- what a reading did to the bytes that are left, and to the slice; of what stands there behind the bytes that were copied nothing is said
+abbrev pub IsRead : Took → Option (List ℕ) → Option (List ℕ) → List ℕ → Type 0
+IsRead (took.Some n) old new into = (n ≤ length into) × GivesNext old new n into
+IsRead took.Failed old new into = new ≡ old
 
 -- the first n bytes were added
 abbrev pub IsAdded : Option (List ℕ) → Option (List ℕ) → List ℕ → Type 0

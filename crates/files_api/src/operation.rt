@@ -72,41 +72,38 @@ fn tell_end<F: Files>(alloc: Global, files: &mut F, answer: Answer) -> Answer
     ensures faults { F.faults files.old ≤ F.faults files.new }
     ensures told { Grows (F.history files.old) (F.history files.new) (OwnsToEnd (F.me files.old) (End (F.me files.old) result ∷ [])) }
 {
-    let Ok(copy) = answer.copy(alloc) else {
-        return give_up(files);
-    };
-    if tell(files, Note::End(copy)) {
+    if files.end(alloc, &answer) {
         return answer;
     }
     give_up(files)
 }
 
-/// A whole operation: tells its Begin, makes its machine, drives it, and tells its End.
+/// A whole operation: tells its Begin, makes its machine of the request, drives it, and tells its End.
 ///
 /// Afterwards every slot of the seat is empty, no operation of it is open, and the files may be used again.
 /// Where there is no memory for the Begin nothing is told, and the answer is `NoMemory`. The machine is made
-/// after the Begin, so that want of memory for it ends in an End.
-pub fn operate<M: Machine + Drop, F: Files, B: FnOnce() -> Result<M, NoMemory>>(
+/// after the Begin, so that it may take the request's memory, and that want of memory for it ends in an End.
+pub fn operate<M: Machine + Drop, F: Files, B: FnOnce(Request) -> Result<M, NoMemory>>(
     alloc: Global,
     files: &mut F,
     request: Request,
     make: B,
 ) -> Answer
     requires idle { IsIdle (F.seen files.old) }
-    requires callable { B.IsAlwaysCallable make }
-    requires right { (m : M) → B.post make (Ok m) → M.right m }
-    requires fresh { (m : M) → B.post make (Ok m) → IsFresh (M.slots m) (M.hurt m) }
+    requires callable { B.pre make request }
+    requires right { (m : M) → B.post make request (Ok m) → M.right m }
+    requires fresh { (m : M) → B.post make request (Ok m) → IsFresh (M.slots m) (M.hurt m) }
     ensures ended { Refused (F.me files.old) (F.history files.old) (F.history files.new) result
         ⊎ (Unmade (F.me files.old) request (F.history files.old) (F.history files.new) result
-        ⊎ Operated M.asks M.asked M.fed M.left (λ m. B.post make (Ok m)) (F.me files.old) request (F.history files.old) (F.history files.new) (F.faults files.old) (F.faults files.new) result) }
+        ⊎ Operated M.asks M.asked M.fed M.left (λ m. B.post make request (Ok m)) (F.me files.old) request (F.history files.old) (F.history files.new) (F.faults files.old) (F.faults files.new) result) }
     ensures idle { IsIdle (F.seen files.new) }
     ensures me { F.me files.new ≡ F.me files.old }
     ensures faults { F.faults files.old ≤ F.faults files.new }
 {
-    if !tell(files, Note::Begin(request)) {
+    if !files.begin(alloc, &request) {
         return Answer::NoMemory;
     }
-    let Ok(made) = make() else {
+    let Ok(made) = make(request) else {
         return give_up(files);
     };
     let mut machine = made;

@@ -48,6 +48,11 @@ abbrev pub AsksPut : Request → ℕ → DriverKeys → Key → List ℕ → Typ
 AsksPut (requests.Put store driver' key' meta blob limit) root driver key item = (store ≡ folder_of root) × (driver' ≡ driver) × (key' ≡ key) × ReadsAs driver item meta blob
 AsksPut request root driver key item = ⊥
 
+-- the item of a put's blob
+abbrev pub item_in : Request → List ℕ
+item_in (requests.Put store driver key meta blob limit) = item_of driver meta blob
+item_in request = []
+
 -- the blob that a put asks to be stored
 abbrev pub blob_in : Request → List ℕ
 blob_in (requests.Put store driver key meta blob limit) = blob

@@ -4,9 +4,8 @@ ghost use Rattle.folder_store.specs.Finds.{Finds};
 ghost use Rattle.folder_store.specs.Gets.{IsNew};
 
 use cache_types::{Answer, Bytes, Driver, Key, MAX_ITEM, Name};
-use item_frame::{ItemRefusal, read_blob};
+use item_frame::take_blob;
 use machine_parts::{Judge, Judged, OldFile, Open, Reading, Whole};
-use std::alloc::Global;
 
 /// A lookup in a folder store: at most four calls, all in one root. It takes no lock and changes nothing.
 ///
@@ -49,20 +48,16 @@ impl OldFile for EntryFile {
 /// Judges an entry's file for a driver.
 #[derive(Debug, Drop)]
 pub struct ForDriver {
-    alloc: Global,
     driver: Driver,
 }
 
-/// The answer that a whole file gives.
-fn answer_of(alloc: Global, driver: &Driver, bytes: Bytes) -> Answer
+/// The answer that a whole file gives: a blob stays in the memory of what was read.
+fn answer_of(driver: &Driver, bytes: Bytes) -> Answer
     ensures { Finds (Reads driver.now bytes) result }
 {
-    match read_blob(alloc, driver, bytes.as_slice()) {
+    match take_blob(driver, bytes) {
         Ok(blob) => Answer::Hit(blob),
-        Err(refusal) => match refusal {
-            ItemRefusal::NoMemory => Answer::NoMemory,
-            _ => Answer::Miss,
-        },
+        Err(_) => Answer::Miss,
     }
 }
 
@@ -75,16 +70,16 @@ impl Judge<Reading<EntryFile>> for ForDriver {
 
     fn judge(self, given: Option<Bytes>) -> Answer {
         match given {
-            Some(bytes) => answer_of(self.alloc, &self.driver, bytes),
+            Some(bytes) => answer_of(&self.driver, bytes),
             None => Answer::Miss,
         }
     }
 }
 
 /// A lookup of a key for a driver in the store of this root, which has done nothing yet. Takes no memory.
-pub fn new_lookup(alloc: Global, root: u32, driver: Driver, key: Key) -> FolderGet
+pub fn new_lookup(root: u32, driver: Driver, key: Key) -> FolderGet
     ensures { IsNew root driver key result }
 {
     let entry = Reading::new(EntryFile { root, key }, Open::none());
-    Whole::Going(Judged::new(entry, ForDriver { alloc, driver }))
+    Whole::Going(Judged::new(entry, ForDriver { driver }))
 }

@@ -35,7 +35,7 @@ pub fn folder_get<F: Files>(
 {
     driver.known();
     files.known();
-    operate(alloc, files, request, move || {
-        Ok(new_lookup(alloc, root, driver, key))
+    operate(alloc, files, request, move |_request| {
+        Ok(new_lookup(root, driver, key))
     })
 }

@@ -1,16 +1,47 @@
-ghost use Rattle.std.specs.Prelude.{◌≡◌, ◌≤◌};
+ghost use Rattle.std.specs.Prelude.{◌≡◌, ◌≤◌, ℕ, IfOk};
+ghost use Rattle.cache_types.specs.declared.key.Key.{Key as KeyOf};
 ghost use Rattle.file_log.specs.Seat.{IsIdle};
-ghost use Rattle.folder_store.specs.Put.{AsksPut, PutDone, blob_in};
+ghost use Rattle.folder_store.specs.Put.{AsksPut, PutDone, blob_in, item_in};
+ghost use Rattle.folder_store.specs.PutPhases.{IsNewPut};
 
 use crate::put::FolderPut;
-use cache_types::{Answer, Bytes, Driver, Key, Request};
+use cache_types::{Answer, Bytes, Driver, Key, NoMemory, Request};
 use files_api::{Files, operate};
+use item_frame::item_around;
 use std::alloc::Global;
+use std::mem;
 
-/// Puts an item into the folder store of a root, as one operation that was asked for so.
+/// The item of a put, in the memory of the blob, which is taken out of the request.
+fn take_item(alloc: Global, driver: &Driver, request: &mut Request) -> Result<Bytes, NoMemory>
+    requires { (root : ℕ) × (key : KeyOf) × AsksPut request.old root driver.now key (item_in request.old) }
+    ensures { IfOk result (λ item. item ≡ item_in request.old) }
+{
+    let Request::Put { meta, blob, .. } = request else {
+        return Err(NoMemory);
+    };
+    let blob = mem::replace(blob, Bytes::new(alloc));
+    item_around(alloc, driver, meta, blob)
+}
+
+/// The machine of a put.
+fn made(
+    alloc: Global,
+    root: u32,
+    driver: Driver,
+    key: Key,
+    mut request: Request,
+) -> Result<FolderPut, NoMemory>
+    requires { AsksPut request root driver key (item_in request) }
+    ensures { IfOk result (IsNewPut root driver key (item_in request)) }
+{
+    let item = take_item(alloc, &driver, &mut request)?;
+    Ok(FolderPut::new(alloc, root, driver, key, item))
+}
+
+/// Puts a blob into the folder store of a root, as one operation that was asked for so.
 ///
 /// The answer is `Kept` where the store holds a blob for the driver and key, `Stored` where it held none and
-/// now holds the item's, `Busy` exactly where 64 tries in a row of the lock of the key's folder were answered
+/// now holds this one, `Busy` exactly where 64 tries in a row of the lock of the key's folder were answered
 /// that another seat holds it, `FilesFault` exactly where a call failed, or `NoMemory`; after the last two
 /// the entry is as it was. A put that is busy changes nothing, but that the lock file may be there, empty.
 ///
@@ -34,11 +65,10 @@ pub fn folder_put<F: Files>(
     root: u32,
     driver: Driver,
     key: Key,
-    item: Bytes,
     request: Request,
 ) -> Answer
     requires idle { IsIdle (F.seen files.old) }
-    requires asks { AsksPut request root driver key item }
+    requires asks { AsksPut request root driver key (item_in request) }
     ensures done { PutDone (F.me files.old) request root driver key (blob_in request) (F.history files.old) (F.history files.new) (F.faults files.old) (F.faults files.new) result }
 
     // The files may be used again.
@@ -48,7 +78,7 @@ pub fn folder_put<F: Files>(
 {
     driver.known();
     files.known();
-    operate(alloc, files, request, move || {
-        Ok(FolderPut::new(alloc, root, driver, key, item))
+    operate(alloc, files, request, move |request| {
+        made(alloc, root, driver, key, request)
     })
 }

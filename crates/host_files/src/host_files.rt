@@ -6,7 +6,7 @@ use crate::opened::Opened;
 use crate::reason::Reason;
 use crate::seat::Seat;
 use crate::{opening, system};
-use cache_types::{Bytes, Name, NoMemory, Text, Who};
+use cache_types::{Answer, Bytes, Name, NoMemory, Request, Text, Who};
 use file_log::{Call, Note, Reply};
 use files_api::Files;
 use path_names::{Paths, has_path, path_of};
@@ -373,6 +373,20 @@ impl<R: RealFiles<File = File> + Clock + Drop> Files for HostFiles<R> {
         ensures paths { self.new.paths ≡ self.old.paths }
     {
         self.made(&c)
+    }
+
+    /// No log is told, so the request isn't copied.
+    fn begin(&mut self, _alloc: Global, _request: &Request) -> bool {
+        self.waits = 0;
+        self.seat.begin();
+        true
+    }
+
+    /// No log is told, so the answer isn't copied.
+    fn end(&mut self, _alloc: Global, _answer: &Answer) -> bool {
+        self.waits = 0;
+        self.seat.end();
+        true
     }
 
     fn known(&self) {}

@@ -5,11 +5,7 @@ use crate::fault::Fault;
 use crate::reason::Reason;
 use crate::system::again_if_interrupted;
 use files_api::{Source, Took};
-use std::alloc::Global;
 use std::io::{Input, Read};
-
-/// At most so many bytes are read at once: as many as a pipe of Linux holds.
-const PIECE: usize = 65_536;
 
 /// Reads what comes at once.
 fn read_some<T: Read>(reader: &mut T, into: &mut [u8]) -> Result<usize, Fault>
@@ -27,15 +23,11 @@ fn read_some<T: Read>(reader: &mut T, into: &mut [u8]) -> Result<usize, Fault>
 
 /// Standard input. What is left isn't told, but where a reader tells it, no byte of it is passed over.
 ///
-/// A reading is one call of the system, of at most 65,536 bytes; it is made again where a signal interrupted
-/// it. That it fails, or that there is no memory for those bytes, is a fault.
+/// A reading is one call of the system, straight into the slice; it is made again where a signal interrupted it.
+/// That it fails is a fault. It takes no memory.
 #[derive(Drop)]
 pub struct HostSource<R: Input + Drop> {
-    alloc: Global,
     reader: R::Reader,
-    /// Room for what one reading gives, made at the first: a reader may change all of the slice that it is
-    /// given, and a [`Source`] changes no more of a slice than it reads.
-    piece: Vec<u8>,
     faults: u64,
     /// Why the first reading that failed did.
     first: Option<Reason>,
@@ -43,21 +35,18 @@ pub struct HostSource<R: Input + Drop> {
 }
 
 impl<R: Input + Drop> HostSource<R> {
-    ghost use Rattle.std.specs.Prelude.{◌≡◌, ◌≤◌, ◌↔◌, length, drop, None, Some, IfOk, OnErr};
+    ghost use Rattle.std.specs.Prelude.{◌≡◌, ◌↔◌, None, Some};
     ghost use Rattle.std.specs.Option.{option_or};
-    ghost use Rattle.std.specs.Io.KnownBytes.{ReadConsumes};
     ghost use Rattle.files_api.specs.Streams.{HasFault};
     ghost use Rattle.files_api.specs.declared.took.Took.TheVariants.{Failed};
     ghost use Rattle.host_files.specs.Faults.{risen, reason_for};
 
-    /// The standard input of a program. Nothing is read, and no memory taken, before the first reading.
-    pub fn new(alloc: Global, rt: R) -> HostSource<R>
+    /// The standard input of a program. Nothing is read before the first reading.
+    pub fn new(rt: R) -> HostSource<R>
         ensures { ⟦<HostSource<R> as Source>⟧.faults result ≡ 0 }
     {
         HostSource {
-            alloc,
             reader: rt.reader(),
-            piece: Vec::new(alloc),
             faults: 0,
             first: None,
         }
@@ -68,25 +57,6 @@ impl<R: Input + Drop> HostSource<R> {
         ensures { (result ≡ None) ↔ (⟦<HostSource<R> as Source>⟧.faults self.now ≡ 0) }
     {
         self.first
-    }
-
-    /// Copies the next bytes, as many as come at once.
-    fn copy_to(&mut self, into: &mut [u8]) -> Result<usize, Fault>
-        ensures within { IfOk result (λ n. n ≤ length into.old) }
-        ensures rest { IfOk result (λ n. drop n into.new ≡ drop n into.old) }
-        ensures failed { OnErr result (into.new ≡ into.old) }
-        ensures faults { self.new.faults ≡ self.old.faults }
-        ensures first { self.new.first ≡ self.old.first }
-        ensures bytes { ReadConsumes (⟦<R::Reader as Read>⟧.remaining self.old.reader) (⟦<R::Reader as Read>⟧.remaining self.new.reader) result into.new }
-    {
-        if self.piece.is_empty() {
-            self.piece = vec![in self.alloc; 0u8; PIECE]?;
-        }
-        let room = into.len().min(self.piece.len());
-        let piece = &mut self.piece.as_mut_slice()[..room];
-        let n = read_some(&mut self.reader, piece)?;
-        into[..n].copy_from_slice(&piece[..n]);
-        Ok(n)
     }
 
     /// A reading failed: it is counted, and the first is kept.
@@ -117,7 +87,7 @@ impl<R: Input + Drop> Source for HostSource<R> {
 
     /// Reads the next bytes. A failure is counted once.
     fn read(&mut self, into: &mut [u8]) -> Took
-        ensures read { IsRead result None None into.old into.new }
+        ensures read { IsRead result None None into.new }
         ensures cause { HasFault self.old.faults self.new.faults result }
 
         ensures count { self.new.faults ≡ count_taken result self.old.faults }
@@ -127,7 +97,7 @@ impl<R: Input + Drop> Source for HostSource<R> {
         if into.is_empty() {
             return Took::Some(0);
         }
-        match self.copy_to(into) {
+        match read_some(&mut self.reader, into) {
             Ok(n) => Took::Some(n as u64),
             Err(fault) => self.fail(fault),
         }

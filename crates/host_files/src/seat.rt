@@ -85,16 +85,26 @@ impl Seat {
         ensures slots { self.new.slots ≡ self.old.slots }
     {
         match note {
-            Note::Begin(_) => {
-                self.inside = true;
-                self.hurt = false;
-            }
+            Note::Begin(_) => self.begin(),
             Note::Evict { .. } => {}
-            Note::End(_) => {
-                self.inside = false;
-                self.hurt = false;
-            }
+            Note::End(_) => self.end(),
         }
+    }
+
+    /// An operation has begun.
+    pub fn begin(&mut self)
+        ensures { self.new ≡ record self.old { inside = true; hurt = false } }
+    {
+        self.inside = true;
+        self.hurt = false;
+    }
+
+    /// The open operation has ended.
+    pub fn end(&mut self)
+        ensures { self.new ≡ record self.old { inside = false; hurt = false } }
+    {
+        self.inside = false;
+        self.hurt = false;
     }
 
     /// There was no memory for a call: an open operation is hurt.

@@ -1,5 +1,5 @@
 -- The laws of items, for the crates above.
-use Rattle.std.proofs.Common.{◌≡◌, ℕ, ◌+◌, ◌*◌, ◌≤◌, List, [], ◌++◌, length, drop, Result, Ok, Err, refl, sym, ap, subst, ◌∙◌, arith, length-append}
+use Rattle.std.proofs.Common.{◌≡◌, ℕ, ◌+◌, ◌-◌, ◌*◌, ◌≤◌, List, [], ◌++◌, length, drop, Result, Ok, Err, refl, sym, ap, subst, ◌∙◌, append_assoc, arith, length-append}
 use Rattle.std.specs.Result.{result_err}
 use Rattle.std.proofs.lemmas.List.{drop_at, append-nil}
 use Rattle.std.specs.Int.{w32, to_le_bytes}
@@ -10,6 +10,7 @@ use Rattle.cache_types.specs.declared.meta.Meta.TheVariants.{Unknown, Glsl}
 use Rattle.cache_types.specs.Driver.{DriverKeys, blob_of, IsDriver}
 use Rattle.cache_types.proofs.Blobs.{length-blob_of}
 use Rattle.item_frame.specs.declared.refusal.ItemRefusal.{ItemRefusal}
+use Rattle.crc_small.specs.Sum.{Sum}
 use Rattle.item_frame.specs.Item.{meta_bytes, payload_bytes, item_of, IsMeta, ReadsAs, Reads, IsItem, IsOnlyItem}
 use Rattle.item_frame.specs.Reading.{body_at, rest_at, next_at, item_at, meta_at}
 use Rattle.item_frame.specs.Refusals.{IsWrong}
@@ -107,3 +108,21 @@ at_most d bytes blob d_is r =
     short : (meta : Meta) → IsMeta meta → length (meta_bytes meta) ≤ 1288
     short Unknown fits = omega arith
     short (Glsl keys) fits = omega (arith, length-meta_bytes keys fits, fits.0)
+
+-- ---- the blob is the last of an item's bytes
+
+last : (head blob : List ℕ) → drop (length (head ++ blob) - length blob) (head ++ blob) ≡ blob
+last head blob = drop_at head blob (length (head ++ blob) - length blob) (omega (arith, length-append head blob))
+
+regrouped : (front meta sum size blob : List ℕ) → (front ++ (meta ++ (sum ++ size))) ++ blob ≡ front ++ (meta ++ (sum ++ (size ++ blob)))
+regrouped front meta sum size blob = simp append_assoc
+
+last_of_item : (d : DriverKeys) (bytes blob : List ℕ) → Reads d bytes blob → drop (length bytes - length blob) bytes ≡ blob
+last_of_item d bytes blob r =
+    let head = blob_of d ++ (meta_bytes r.meta ++ (to_le_bytes w32 (Sum blob) ++ to_le_bytes w32 (length blob))) in
+    let whole : bytes ≡ head ++ blob = r.whole ∙ sym (regrouped (blob_of d) (meta_bytes r.meta) (to_le_bytes w32 (Sum blob)) (to_le_bytes w32 (length blob)) blob) in
+    ap (λ (x : List ℕ). drop (length x - length blob) x) whole ∙ last head blob
+
+-- what stands from there on is read
+pub Reads-last : (d : DriverKeys) (bytes blob : List ℕ) → Reads d bytes blob → Reads d bytes (drop (length bytes - length blob) bytes)
+Reads-last d bytes blob r = subst (Reads d bytes) (sym (last_of_item d bytes blob r)) r

@@ -1,8 +1,8 @@
-ghost use Rattle.std.specs.Prelude.{◌≡◌, ◌≢◌, ◌≤◌, ◌↔◌, length, IsOk, IfOk, OnOk, IfErr, Err};
+ghost use Rattle.std.specs.Prelude.{◌≡◌, ◌≢◌, ◌≤◌, ◌↔◌, length, drop, IsOk, IfOk, OnOk, IfErr, Err};
 ghost use Rattle.std.specs.Result.{result_err};
 ghost use Rattle.cache_types.specs.Driver.{blob_of};
 ghost use Rattle.item_frame.specs.Item.{IsItem, IsOnlyItem, Reads, ReadsAs};
-ghost use Rattle.item_frame.specs.Refusals.{first_refusal, IsRefused};
+ghost use Rattle.item_frame.specs.Refusals.{first_refusal, IsRefused, IsWrong};
 ghost use Rattle.item_frame.specs.RoundTrip.{GivesBack};
 
 use crate::fields::{behind_front, behind_type, meta_of, payload};
@@ -71,4 +71,26 @@ pub fn read_blob(alloc: Global, driver: &Driver, bytes: &[u8]) -> Result<Bytes, 
     let payload = payload(driver.blob(), bytes)?;
     let blob = Bytes::of(alloc, payload)?;
     Ok(blob)
+}
+
+/// Where the blob of an item of the driver begins: it is the last of the item's bytes.
+fn blob_start(driver: &Driver, bytes: &[u8]) -> Result<u64, ItemRefusal>
+    ensures read { IfOk result (λ start. Reads driver.now bytes.now (drop start bytes.now)) }
+    ensures wrong { IfErr result (λ refusal. IsWrong driver.now bytes.now refusal) }
+{
+    let payload = payload(driver.blob(), bytes)?;
+    Ok((bytes.len() - payload.len()) as u64)
+}
+
+/// The blob of an item of the driver, in the memory of the item, of which nothing is copied. Takes no memory.
+///
+/// # Errors
+///
+/// The first [`ItemRefusal`] that applies, as [`check_item`] gives it, never `NoMemory`; then the bytes are let go.
+pub fn take_blob(driver: &Driver, bytes: Bytes) -> Result<Bytes, ItemRefusal>
+    ensures read { IfOk result (λ blob. Reads driver.now bytes blob) }
+    ensures wrong { IfErr result (λ refusal. IsWrong driver.now bytes refusal) }
+{
+    let start = blob_start(driver, bytes.as_slice())?;
+    Ok(bytes.behind(start))
 }

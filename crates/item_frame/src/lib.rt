@@ -12,6 +12,6 @@ mod writing;
 
 pub use any::{Owned, driver_of, read_any};
 pub use error::ItemError;
-pub use item::{Item, check_item, read_blob, read_item};
+pub use item::{Item, check_item, read_blob, read_item, take_blob};
 pub use refusal::ItemRefusal;
-pub use writing::{item_len, write_item};
+pub use writing::{item_around, item_len, known_meta, write_item};

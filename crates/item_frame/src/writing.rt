@@ -32,7 +32,7 @@ fn known_keys(keys: &[Key])
 }
 
 /// What is known of a meta: it can stand in an item unless it has too many keys.
-fn known_meta(meta: &Meta)
+pub fn known_meta(meta: &Meta)
     ensures { key_count meta.now ≤ MAX_KEYS → IsMeta meta.now }
 {
     match meta {
@@ -98,14 +98,42 @@ fn put_meta(item: &mut Vec<u8>, meta: &Meta) -> Result<(), NoMemory>
     Ok(())
 }
 
-fn put_payload(item: &mut Vec<u8>, blob: &[u8]) -> Result<(), NoMemory>
+/// Adds the checksum and the size of a blob.
+fn put_sum(item: &mut Vec<u8>, blob: &[u8]) -> Result<(), NoMemory>
     requires { length blob.now ≤ MAX_BLOB }
-    ensures { OnOk result (item.new.items ≡ item.old.items ++ payload_bytes blob.now) }
+    ensures { OnOk result (item.new.items ++ blob.now ≡ item.old.items ++ payload_bytes blob.now) }
 {
     item.extend_from_slice(&number_bytes(crc32(blob)))?;
     item.extend_from_slice(&number_bytes(blob.len() as u32))?;
-    item.extend_from_slice(blob)?;
     Ok(())
+}
+
+/// Adds all that stands in front of a blob in its item.
+fn put_head(item: &mut Vec<u8>, driver: &Driver, meta: &Meta, blob: &[u8]) -> Result<(), NoMemory>
+    requires keys { key_count meta.now ≤ MAX_KEYS }
+    requires blob { length blob.now ≤ MAX_BLOB }
+    ensures { OnOk result (item.new.items ++ blob.now ≡ item.old.items ++ item_of driver.now meta.now blob.now) }
+{
+    item.extend_from_slice(driver.blob())?;
+    put_meta(item, meta)?;
+    put_sum(item, blob)
+}
+
+/// The item of a driver, a meta and a blob that there can be. It takes the blob's own memory where that has room in
+/// front of the blob ([`Bytes::behind`]) for all that stands there in the item.
+pub fn item_around(
+    alloc: Global,
+    driver: &Driver,
+    meta: &Meta,
+    blob: Bytes,
+) -> Result<Bytes, NoMemory>
+    requires keys { key_count meta.now ≤ MAX_KEYS }
+    requires blob { length blob ≤ MAX_BLOB }
+    ensures { IfOk result (λ item. item ≡ item_of driver.now meta.now blob) }
+{
+    let mut head = Vec::new(alloc);
+    put_head(&mut head, driver, meta, blob.as_slice())?;
+    blob.fronted(head.as_slice())
 }
 
 /// The bytes of an item that there can be.
@@ -117,9 +145,8 @@ fn spelled(alloc: Global, driver: &Driver, meta: &Meta, blob: &[u8]) -> Result<V
     known_meta(meta);
     let len = item_len(driver, meta, blob.len() as u64);
     let mut item = Vec::with_capacity(alloc, len as usize)?;
-    item.extend_from_slice(driver.blob())?;
-    put_meta(&mut item, meta)?;
-    put_payload(&mut item, blob)?;
+    put_head(&mut item, driver, meta, blob)?;
+    item.extend_from_slice(blob)?;
     Ok(item)
 }
 

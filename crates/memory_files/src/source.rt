@@ -56,7 +56,7 @@ impl Source for MemSource {
     ghost faults = { λ s. s.faults };
 
     fn read(&mut self, into: &mut [u8]) -> Took
-        ensures read { IsRead result (Some (left_in self.old)) (Some (left_in self.new)) into.old into.new }
+        ensures read { IsRead result (Some (left_in self.old)) (Some (left_in self.new)) into.new }
         ensures cause { HasFault (⟦<MemSource as Source>⟧.faults self.old) (⟦<MemSource as Source>⟧.faults self.new) result }
         ensures fails { (result ≡ Took.Failed) ↔ IsTrue (is_due (failing_reads self.old)) }
         ensures counted { failing_reads self.new ≡ counted (failing_reads self.old) }

@@ -42,7 +42,7 @@ impl Op {
                 ..
             } => {
                 let driver = driver.copy()?;
-                Ok(Op::Get(new_lookup(alloc, store.root, driver, *key)))
+                Ok(Op::Get(new_lookup(store.root, driver, *key)))
             }
             Request::Put {
                 store,

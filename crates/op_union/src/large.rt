@@ -17,7 +17,7 @@ pub fn refuse_large<F: Files>(alloc: Global, files: &mut F, request: Request, n:
     ensures faults { F.faults files.old ≤ F.faults files.new }
 {
     files.known();
-    operate(alloc, files, request, move || {
+    operate(alloc, files, request, move |_request| {
         Ok(Given::new(Answer::TooLarge(n)))
     })
 }

@@ -6,11 +6,11 @@ use crate::large::refuse_large;
 use cache_types::{Answer, MAX_BLOB, Request};
 use files_api::Files;
 use folder_store::folder_put;
-use item_frame::write_item;
+use item_frame::known_meta;
 use std::alloc::Global;
 
-/// Puts a blob into a folder store. Its item is spelled before the Begin takes the blob; where there is no
-/// memory for that nothing is told.
+/// Puts a blob into a folder store. The driver is copied, since the request's stays in it for the Begin; where there is
+/// no memory for that nothing is told.
 pub fn put_in_folder<F: Files>(alloc: Global, files: &mut F, request: Request) -> Answer
     requires idle { IsIdle (F.seen files.old) }
     requires put { IsPut request }
@@ -35,11 +35,9 @@ pub fn put_in_folder<F: Files>(alloc: Global, files: &mut F, request: Request) -
     if len > MAX_BLOB as u64 {
         return refuse_large(alloc, files, request, len);
     }
-    let Ok(item) = write_item(alloc, driver, meta, blob.as_slice()) else {
-        return Answer::NoMemory;
-    };
+    known_meta(meta);
     let Ok(driver) = driver.copy() else {
         return Answer::NoMemory;
     };
-    folder_put(alloc, files, root, driver, key, item, request)
+    folder_put(alloc, files, root, driver, key, request)
 }

@@ -1,7 +1,7 @@
 use crate::drivers::taken;
 use crate::expect::same_text;
-use cache_types::Driver;
-use item_frame::{ItemRefusal, check_item, read_any, read_blob, read_item};
+use cache_types::{Bytes, Driver};
+use item_frame::{ItemRefusal, check_item, read_any, read_blob, read_item, take_blob};
 use row_text::{Sentence, Wrong};
 use std::alloc::Global;
 
@@ -20,7 +20,9 @@ pub fn refused(row: &mut Sentence, bytes: &[u8]) -> Result<(), Wrong> {
 fn refused_for(alloc: Global, bytes: &[u8], driver: &Driver, wanted: &str) -> Result<(), Wrong> {
     same_text(alloc, wanted, refusal_of(check_item(driver, bytes)))?;
     same_text(alloc, wanted, refusal_of(read_item(alloc, driver, bytes)))?;
-    same_text(alloc, wanted, refusal_of(read_blob(alloc, driver, bytes)))
+    same_text(alloc, wanted, refusal_of(read_blob(alloc, driver, bytes)))?;
+    let taken = take_blob(driver, Bytes::of(alloc, bytes)?);
+    same_text(alloc, wanted, refusal_of(taken))
 }
 
 /// The name of a refusal, where there is one.

@@ -1,10 +1,10 @@
 use crate::damage::refused;
 use crate::drivers::{first_of, taken};
 use crate::expect::{holds, same_number, same_text};
-use cache_types::{Driver, Key, KeyList, MAX_BLOB, MAX_KEYS, Meta};
+use cache_types::{Bytes, Driver, Key, KeyList, MAX_BLOB, MAX_KEYS, Meta};
 use item_frame::{
     ItemError, ItemRefusal, check_item, driver_of, item_len, read_any, read_blob, read_item,
-    write_item,
+    take_blob, write_item,
 };
 use row_text::{Sentence, Wrong, equal, key_of, same};
 use std::alloc::Global;
@@ -145,6 +145,10 @@ fn reads(row: &mut Sentence, bytes: &[u8]) -> Result<(), Wrong> {
 fn reads_for(alloc: Global, bytes: &[u8], driver: &Driver, held: &Held) -> Result<(), Wrong> {
     holds(alloc, "items", true, check_item(driver, bytes).is_ok())?;
     match read_blob(alloc, driver, bytes) {
+        Ok(blob) => same(alloc, &held.blob, blob.as_slice())?,
+        Err(refusal) => return Err(told(alloc, refusal)),
+    }
+    match take_blob(driver, Bytes::of(alloc, bytes)?) {
         Ok(blob) => same(alloc, &held.blob, blob.as_slice())?,
         Err(refusal) => return Err(told(alloc, refusal)),
     }

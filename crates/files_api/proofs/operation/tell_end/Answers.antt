@@ -12,8 +12,8 @@ pub returns-clause-told : goal.returns-clause-told
 returns-clause-told g c =
     let f = g.F.Files in
     let old = c.args.files.now in
-    let mid = c.tell.new.files in
-    let new = c.give_up-2.new.files in
-    let first = subst (λ (b : Bool). Grows (f.history old) (f.history mid) (OwnsToEnd (f.me old) (items_told (f.me old) (notes.End c.in-Ok.copy) b))) c.if-tell.false c.tell.ensures.told in
-    let second = subst (λ (w : Who). Grows (f.history mid) (f.history new) (OwnsToEnd w (End w c.give_up-2.result ∷ []))) c.tell.ensures.me (subst (λ (a : Answer). Grows (f.history mid) (f.history new) (OwnsToEnd (f.me mid) (End (f.me mid) a ∷ []))) (sym c.give_up-2.ensures.result) c.give_up-2.ensures.told) in
-    grows_to_end (f.me old) (f.history old) (f.history mid) (f.history new) [] (End (f.me old) c.give_up-2.result ∷ []) tt (but_the_end (f.me old) (f.history old) (f.history mid) [] first) second
+    let mid = c.end.new.self in
+    let new = c.give_up.new.files in
+    let first = subst (λ (b : Bool). Grows (f.history old) (f.history mid) (OwnsToEnd (f.me old) (items_told (f.me old) (notes.End c.args.answer) b))) c.if-end.false c.end.ensures.told in
+    let second = subst (λ (w : Who). Grows (f.history mid) (f.history new) (OwnsToEnd w (End w c.give_up.result ∷ []))) c.end.ensures.me (subst (λ (a : Answer). Grows (f.history mid) (f.history new) (OwnsToEnd (f.me mid) (End (f.me mid) a ∷ []))) (sym c.give_up.ensures.result) c.give_up.ensures.told) in
+    grows_to_end (f.me old) (f.history old) (f.history mid) (f.history new) [] (End (f.me old) c.give_up.result ∷ []) tt (but_the_end (f.me old) (f.history old) (f.history mid) [] first) second
